@@ -1,0 +1,87 @@
+// Byte offsets and word addresses, numbers in a file, ranges of bytes. Every function is total: a read past the end gives 0, and no sum wraps.
+ghost use mathlib.Core.Path.{_≡_};
+ghost use lib.ListN.{length};
+ghost use Rattle.binary.specs.Addresses.{offsetOfWord};
+ghost use Rattle.binary.specs.Bytes.{u8At, u16At, u32At};
+ghost use Rattle.binary.specs.Ranges.{rangeOf, inside, share};
+
+// The address of a word, counted in words from the start of the opcode table.
+pub struct WordAddress(pub u32);
+
+// The offset of a byte. Offsets that a file holds have 32 bits, their sums more.
+pub struct ByteOffset(pub u64);
+
+// Where a word starts, counted in bytes from the start of its table: the one way from a word address to a byte offset.
+pub fn offset_of_word(a: WordAddress) -> ByteOffset
+    ensures { λ r. ⌜ r ≡ offsetOfWord a ⌝ }
+{
+    ByteOffset(a.0 as u64 * 4)
+}
+
+pub fn u8_at(s: &[u8], at: ByteOffset) -> u8
+    ensures { λ r. ⌜ r ≡ u8At (now (s .entry)) (at .0) ⌝ }
+{
+    let i = at.0 as usize;
+    if i < s.len() { s[i] } else { 0 }
+}
+
+pub fn u16_at(s: &[u8], at: ByteOffset) -> u16
+    ensures { λ r. ⌜ r ≡ u16At (now (s .entry)) (at .0) ⌝ }
+{
+    let i = at.0;
+    if s.len() as u64 <= i {
+        return 0;
+    }
+    u8_at(s, at) as u16 + u8_at(s, ByteOffset(i + 1)) as u16 * 256
+}
+
+pub fn u32_at(s: &[u8], at: ByteOffset) -> u32
+    ensures { λ r. ⌜ r ≡ u32At (now (s .entry)) (at .0) ⌝ }
+{
+    let i = at.0;
+    if s.len() as u64 <= i {
+        return 0;
+    }
+    u16_at(s, at) as u32 + u16_at(s, ByteOffset(i + 2)) as u32 * 65536
+}
+
+// A run of `size` bytes from `start` on.
+pub struct Range {
+    pub start: ByteOffset,
+    pub size: u64,
+}
+
+// The bytes of `count` entries of `size` bytes each, at `offset` from the start of a section. The numbers are a file's, of 32 bits; they are added and multiplied in 64.
+pub fn range_of(section: u32, offset: u32, count: u32, size: u32) -> Range
+    ensures { λ r. ⌜ r ≡ rangeOf section offset count size ⌝ }
+{
+    Range {
+        start: ByteOffset(section as u64 + offset as u64),
+        size: count as u64 * size as u64,
+    }
+}
+
+// Whether the range lies inside the file. The test subtracts, so that it holds for every range.
+pub fn is_inside(r: Range, file: &[u8]) -> bool
+    ensures { λ b. ⌜ b ≡ inside r (length (now (file .entry))) ⌝ }
+{
+    let length = file.len() as u64;
+    r.size <= length && r.start.0 <= length - r.size
+}
+
+// Whether the ranges share a byte: neither is empty, and where the later one starts lies in the other. It subtracts for the same reason.
+pub fn shares_byte(a: Range, b: Range) -> bool
+    ensures { λ r. ⌜ r ≡ share a b ⌝ }
+{
+    if a.size == 0 {
+        return false;
+    }
+    if b.size == 0 {
+        return false;
+    }
+    if a.start.0 <= b.start.0 {
+        b.start.0 - a.start.0 < a.size
+    } else {
+        a.start.0 - b.start.0 < b.size
+    }
+}
