@@ -1,6 +1,6 @@
 -- A test that antt computes at each number of a range holds at every number of the range: a table's rule, proved once. Assumes nothing.
 use mathlib.Core.Path.{_≡_, refl}
-use mathlib.Core.Bool.{Bool, true, false, _&&_}
+use mathlib.Core.Bool.{Bool, true, false, not, _&&_, _||_}
 use Prim.Native.Nat.{ℕ, zero, suc, _+_, _<_, _≤_}
 use native.Mathlib.Omega.{arith}
 use lib.Dec.{T, eqb, eqb→eq}
@@ -25,3 +25,11 @@ from-all test lo (suc n) t k h l =
 -- two functions that agree, by the test, at each number of the range
 pub same-from : (f g : ℕ → ℕ) (lo n : ℕ) → T (allFrom (λ k. eqb (f k) (g k)) lo n) → (k : ℕ) → lo ≤ k → k < lo + n → f k ≡ g k
 same-from f g lo n t k h l = eqb→eq (f k) (g k) (from-all (λ k. eqb (f k) (g k)) lo n t k h l)
+
+-- .. where another test holds
+pub same-where : (test : ℕ → Bool) (f g : ℕ → ℕ) (lo n : ℕ) → T (allFrom (λ k. not (test k) || eqb (f k) (g k)) lo n) → (k : ℕ) → lo ≤ k → k < lo + n → T (test k) → f k ≡ g k
+same-where test f g lo n t k h l holds = eqb→eq (f k) (g k) (other (test k) (eqb (f k) (g k)) (from-all (λ k. not (test k) || eqb (f k) (g k)) lo n t k h l) holds)
+  where
+    other : (a b : Bool) → T (not a || b) → T a → T b
+    other true b t s = t
+    other false b t s = absurd s
