@@ -1,3 +1,5 @@
+pub mod Descriptors
 pub mod Formats
 pub mod Packing
 pub mod RoundTrip
+pub mod Trials

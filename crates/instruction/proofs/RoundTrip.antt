@@ -72,9 +72,10 @@ short : (g : Format) (j n bits m : ℕ) → n + j ≡ 6 → 0 < tag g
     → Short g j n bits m
 short g j n bits m six p t₁ t₂ t₃ =
     record {
-    same-bits = λ w e. field-upper 26 j n w ∙ same-where (λ k. eqb (tag (formatOf k)) (tag g)) (λ k. k / 2 ^ j) (λ k. bits) 0 64 t₁ (field 26 (n + j) w) (omega arith) (below w) (T-eqb (ap tag e));
-    tell = λ w e. same-tag (same-where (λ k. eqb (k / 2 ^ j) bits) (λ k. tag (formatOf k)) (λ k. tag g) 0 64 t₂ (field 26 (n + j) w) (omega arith) (below w) (T-eqb (sym (field-upper 26 j n w) ∙ e)));
-    one-number = λ op e. same-where (λ k. eqb (tag (entryFormat k)) (tag g)) (λ k. k) (λ k. m) 0 64 t₃ op (omega arith) (omega (arith, small op (omega arith))) (T-eqb e) }
+      same-bits = λ w e. field-upper 26 j n w ∙ same-where (λ k. eqb (tag (formatOf k)) (tag g)) (λ k. k / 2 ^ j) (λ k. bits) 0 64 t₁ (field 26 (n + j) w) (omega arith) (below w) (T-eqb (ap tag e));
+      tell = λ w e. same-tag (same-where (λ k. eqb (k / 2 ^ j) bits) (λ k. tag (formatOf k)) (λ k. tag g) 0 64 t₂ (field 26 (n + j) w) (omega arith) (below w) (T-eqb (sym (field-upper 26 j n w) ∙ e)));
+      one-number = λ op e. same-where (λ k. eqb (tag (entryFormat k)) (tag g)) (λ k. k) (λ k. m) 0 64 t₃ op (omega arith) (omega (arith, small op (omega arith))) (T-eqb e);
+    }
   where
     below : (w : ℕ) → field 26 (n + j) w < 0 + 64
     below w = rw six (field-lt 26 6 w)
@@ -90,6 +91,28 @@ MADI = short F5i 3 3 6 0x30 refl (omega arith) tt tt tt
 MAD : Short F5 3 3 7 0x38
 unfolding formatOf entryFormat operations
 MAD = short F5 3 3 7 0x38 refl (omega arith) tt tt tt
+
+-- a word decodes to fields exactly if its opcode is an operation's; else the answer is 9 at 0
+fields-of : (g : Format) (w : ℕ) → (g ≡ Unlisted → ⊥) → (f : Fields) × (decodeAs g w ≡ given f)
+fields-of Unlisted w n = absurd (n refl)
+fields-of F0 w n = (format0 w, refl)
+fields-of F1 w n = (format1 w, refl)
+fields-of F1i w n = (format1i w, refl)
+fields-of F1u w n = (format1u w, refl)
+fields-of F1c w n = (format1c w, refl)
+fields-of F2 w n = (format2 w, refl)
+fields-of F3 w n = (format3 w, refl)
+fields-of F4 w n = (format4 w, refl)
+fields-of F5 w n = (format5 w, refl)
+fields-of F5i w n = (format5i w, refl)
+
+pub listed-decodes : (w : ℕ) → (formatOf (field 26 6 w) ≡ Unlisted → ⊥) → (f : Fields) × (decodeOf w ≡ given f)
+unfolding decodeOf
+listed-decodes w n = fields-of (formatOf (field 26 6 w)) w n
+
+pub unlisted-refused : (w : ℕ) → formatOf (field 26 6 w) ≡ Unlisted → decodeOf w ≡ refused 9 0
+unfolding decodeOf
+unlisted-refused w e = rw e
 
 -- a word of a listed operation decodes to fields that encode to the same word
 module _ (w : ℕ) (h : w < 2 ^ 32) where
@@ -141,9 +164,10 @@ coded f w e = by (eqb (tag (entryFormat (numberOf f))) (tag (formatFor f))) (fit
         let t : T (fit ns (partsOf f)) = rw q tt in
         let v : pack ns (partsOf f) ≡ w = cc in
         record {
-        number = eqb-true (tag (entryFormat (numberOf f))) (tag (formatFor f)) p;
-        parts = subst (λ (x : ℕ). fieldsFrom 0 ns x ≡ partsOf f) v (fields-pack ns (partsOf f) t);
-        word = subst (λ (x : ℕ). x < 2 ^ total ns) v (pack-lt ns (partsOf f) t) }
+          number = eqb-true (tag (entryFormat (numberOf f))) (tag (formatFor f)) p;
+          parts = subst (λ (x : ℕ). fieldsFrom 0 ns x ≡ partsOf f) v (fields-pack ns (partsOf f) t);
+          word = subst (λ (x : ℕ). x < 2 ^ total ns) v (pack-lt ns (partsOf f) t);
+        }
     by true false p q r = absurd (let z : _≡_ {A = ℕ} 0 1 = cc in omega arith)
     by false b p q r = absurd (let z : _≡_ {A = ℕ} 0 1 = cc in omega arith)
 
