@@ -32,7 +32,9 @@ pub fn u16_at(s: &[u8], at: ByteOffset) -> u16
     if s.len() as u64 <= i {
         return 0;
     }
-    u8_at(s, at) as u16 + u8_at(s, ByteOffset(i + 1)) as u16 * 256
+    let low = u8_at(s, at) as u16;
+    let high = u8_at(s, ByteOffset(i + 1)) as u16;
+    low + high * 256
 }
 
 pub fn u32_at(s: &[u8], at: ByteOffset) -> u32
@@ -42,7 +44,9 @@ pub fn u32_at(s: &[u8], at: ByteOffset) -> u32
     if s.len() as u64 <= i {
         return 0;
     }
-    u16_at(s, at) as u32 + u16_at(s, ByteOffset(i + 2)) as u32 * 65536
+    let low = u16_at(s, at) as u32;
+    let high = u16_at(s, ByteOffset(i + 2)) as u32;
+    low + high * 65536
 }
 
 // A run of `size` bytes from `start` on.
@@ -55,9 +59,11 @@ pub struct Range {
 pub fn range_of(section: u32, offset: u32, count: u32, size: u32) -> Range
     ensures { λ r. ⌜ r ≡ rangeOf section offset count size ⌝ }
 {
+    let start = section as u64 + offset as u64;
+    let bytes = count as u64 * size as u64;
     Range {
-        start: ByteOffset(section as u64 + offset as u64),
-        size: count as u64 * size as u64,
+        start: ByteOffset(start),
+        size: bytes,
     }
 }
 

@@ -5,10 +5,10 @@ use borrow.Author.Needs.{needs}
 use Rattle.binary.proofs.range_of.Statement.{statement}
 use Rattle.binary.proofs.range_of.Tie as tie
 
-mul-t11 : tie.Need-mul-t11
-mul-t11 c =
+mul-bytes : tie.Need-mul-bytes
+mul-bytes c =
     let f = c .fits in
     record { fits = lt-of-le-of-lt (mul-le-mul-left (c .args .count) (le-of-lt (f .size .fits))) (mul-lt-mul-of-pos-right (f .count .fits) (pow-pos 32)) }
 
 pub range-of-spec : {M : Type 1} → statement M
-range-of-spec = tie.close (tie.spec (λ c. search needs) mul-t11 (λ c. search needs))
+range-of-spec = tie.close (tie.spec (λ c. search needs) mul-bytes (λ c. search needs))
