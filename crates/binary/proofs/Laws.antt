@@ -49,6 +49,13 @@ module _ (r : Range) (n : ℕ) where
   pub larger-than-file : n < r .size → leb (r .size) n ≡ inside r n
   larger-than-file h = rw (lt-leb (r .size) n h, lt-leb (endOf r) n (omega arith))
 
+-- a range is inside exactly if its bytes are, unless it is empty
+pub inside-bytes : (r : Range) (n : ℕ) → T (inside r n) → (k : ℕ) → Holds r k → k < n
+inside-bytes r n t k h = omega (arith, leb→le (endOf r) n t)
+
+pub bytes-inside : (r : Range) (n : ℕ) → 0 < r .size → ((k : ℕ) → Holds r k → k < n) → T (inside r n)
+bytes-inside r n full all = le→leb (endOf r) n (omega (arith, all (endOf r - 1) (omega arith)))
+
 -- what it takes to share a byte, as facts
 record Shared (a b : Range) : Type 0 where
   full-a : 0 < a .size

@@ -10,6 +10,6 @@ byteOffset n = record { 0 = n }
 abbrev pub wordAddress : ℕ → WordAddress
 wordAddress n = record { 0 = n }
 
--- the one conversion: where a word of a table of words starts, counted from the table's start; a word has 4 bytes
+-- the one conversion: where a word starts, counted from the start of the opcode table; a word has 4 bytes
 abbrev pub offsetOfWord : WordAddress → ByteOffset
 offsetOfWord a = byteOffset (a .0 * 4)

@@ -1,4 +1,4 @@
--- Numbers in a file: little endian, and 0 past the end ('Numbers are little endian').
+-- Numbers in a file: little endian, and a byte past the end is 0 ('Numbers are little endian').
 -- Assumes nothing.
 use Prim.Native.Nat.{ℕ, _+_, _*_}
 use mathlib.Core.List.{List}

@@ -3,18 +3,18 @@
 use Prim.Native.Nat.{ℕ, _+_, _*_, _≤_, _<_}
 use mathlib.Core.Bool.{Bool, _&&_}
 use lib.Dec.{leb, ltb}
-use Rattle.binary.specs.Addresses.{byteOffset}
+use Rattle.binary.specs.declared.ByteOffset.{ByteOffset}
 use Rattle.binary.specs.declared.Range.{Range}
 
--- count entries of size bytes each, at an offset from the start of a section
-abbrev pub rangeOf : ℕ → ℕ → ℕ → ℕ → Range
-rangeOf section offset count size = record { start = byteOffset (section + offset); size = count * size }
+-- count entries of size bytes each
+abbrev pub rangeOf : ByteOffset → ℕ → ℕ → Range
+rangeOf start count size = record { start = start; size = count * size }
 
 -- the first byte past the range
 abbrev pub endOf : Range → ℕ
 endOf r = r .start .0 + r .size
 
--- inside a file of so many bytes
+-- ends inside a file of so many bytes. An empty range is asked too: whoever has nothing to test for an empty table does not ask
 abbrev pub inside : Range → ℕ → Bool
 inside r length = leb (endOf r) length
 

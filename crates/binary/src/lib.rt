@@ -1,4 +1,4 @@
-// Byte offsets and word addresses, numbers in a file, ranges of bytes. Every function is total: a read past the end gives 0, and no sum wraps.
+// Byte offsets and word addresses, little-endian numbers in a file, ranges of bytes. Every function is total: a byte past the end reads as 0, and no sum wraps.
 ghost use mathlib.Core.Path.{_≡_};
 ghost use lib.ListN.{length};
 ghost use Rattle.binary.specs.Addresses.{offsetOfWord};
@@ -11,7 +11,7 @@ pub struct WordAddress(pub u32);
 // The offset of a byte. Offsets that a file holds have 32 bits, their sums more.
 pub struct ByteOffset(pub u64);
 
-// Where a word starts, counted in bytes from the start of its table: the one way from a word address to a byte offset.
+// Where a word starts, counted in bytes from the start of the opcode table: the one way from a word address to a byte offset.
 pub fn offset_of_word(a: WordAddress) -> ByteOffset
     ensures { λ r. ⌜ r ≡ offsetOfWord a ⌝ }
 {
@@ -55,16 +55,12 @@ pub struct Range {
     pub size: u64,
 }
 
-// The bytes of `count` entries of `size` bytes each, at `offset` from the start of a section. The numbers are a file's, of 32 bits; they are added and multiplied in 64.
-pub fn range_of(section: u32, offset: u32, count: u32, size: u32) -> Range
-    ensures { λ r. ⌜ r ≡ rangeOf section offset count size ⌝ }
+// The bytes of `count` entries of `size` bytes each. Both have 32 bits, and are multiplied in 64.
+pub fn range_of(start: ByteOffset, count: u32, size: u32) -> Range
+    ensures { λ r. ⌜ r ≡ rangeOf start count size ⌝ }
 {
-    let start = section as u64 + offset as u64;
     let bytes = count as u64 * size as u64;
-    Range {
-        start: ByteOffset(start),
-        size: bytes,
-    }
+    Range { start, size: bytes }
 }
 
 // Whether the range lies inside the file. The test subtracts, so that it holds for every range.

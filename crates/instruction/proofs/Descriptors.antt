@@ -1,4 +1,4 @@
--- The parts of an operand descriptor are those of its layout: they leave no bit out, and none is read twice. Assumes nothing.
+-- The parts of an operand descriptor are those of its layout: no bit is left out, and none is read twice. Assumes nothing.
 use mathlib.Core.Path.{_≡_}
 use mathlib.Core.List.{List}
 use Prim.Native.Nat.{ℕ, _^_, _<_}

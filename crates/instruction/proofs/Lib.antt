@@ -3,3 +3,4 @@ pub mod Formats
 pub mod Packing
 pub mod RoundTrip
 pub mod Trials
+pub mod Uses

@@ -12,7 +12,7 @@ use lib.Seq.{drop-cons, drop-length}
 use mir.Facts.{and-yes, yes-and}
 use Rattle.bits.specs.Fields.{total, pack, fit}
 use Rattle.bits.proofs.Laws.{pack-lt}
-use Rattle.binary.specs.Answers.{given, refused}
+use Rattle.answer.specs.Answers.{given, refused}
 use Rattle.instruction.specs.Layouts.{narrow}
 use Rattle.instruction.specs.Words.{orRefused}
 

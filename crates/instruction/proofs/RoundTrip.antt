@@ -9,7 +9,7 @@ use borrow.Author.Tests.{eq-eqb, eqb-true, ltb-true, ltb-false}
 use Rattle.bits.specs.Fields.{field, fieldsFrom, fit, pack, total}
 use Rattle.bits.proofs.Laws.{field-lt, field-upper, pack-fields, fields-pack, pack-lt, fields-fit}
 use Rattle.bits.proofs.Ranges.{allFrom, same-from, same-where}
-use Rattle.binary.specs.Answers.{Answer, given, refused}
+use Rattle.answer.specs.Answers.{Answer, given, refused}
 use Rattle.instruction.specs.Operations.{operations, tag, formatOf, entryFormat}
 use Rattle.instruction.specs.declared.operation.Format.{Format}
 use Rattle.instruction.specs.declared.operation.Format.the-variants.{Unlisted, F0, F1, F1i, F1u, F1c, F2, F3, F4, F5, F5i}

@@ -1,9 +1,9 @@
--- Words that document 01 prints or describes, through the definitions. Assumes nothing.
+-- Words that document 01 prints, and one of each kind that it describes, through the definitions. Assumes nothing.
 use mathlib.Core.Path.{_≡_, refl}
 use mathlib.Core.List.{List, [], _∷_, map}
 use Prim.Native.Nat.{ℕ}
 use Rattle.binary.specs.Addresses.{wordAddress}
-use Rattle.binary.specs.Answers.{given, refused}
+use Rattle.answer.specs.Answers.{given, refused}
 use Rattle.instruction.specs.Control.{controlOf}
 use Rattle.instruction.specs.Operands.{descriptorOf, operatorsOf, descriptorParts}
 use Rattle.instruction.specs.Operations.{operations, formatOf, entryFormat}

@@ -3,7 +3,7 @@
 use Prim.Native.Nat.{ℕ}
 use mathlib.Core.Bool.{Bool, true, false}
 use lib.Dec.{eqb}
-use Rattle.binary.specs.Answers.{Answer, given, refused}
+use Rattle.answer.specs.Answers.{Answer, given, refused}
 use Rattle.binary.specs.Addresses.{wordAddress}
 use Rattle.instruction.specs.Words.{decodeOf}
 use Rattle.instruction.specs.declared.decoding.Fields.{Fields}

@@ -3,7 +3,7 @@
 use Prim.Native.Nat.{ℕ, _+_}
 use mathlib.Core.List.{List, [], _∷_, _++_}
 use Rattle.bits.specs.Fields.{field}
-use Rattle.binary.specs.Answers.{Answer, given, refused}
+use Rattle.answer.specs.Answers.{Answer, given, refused}
 use Rattle.instruction.specs.Words.{decodeOf}
 use Rattle.instruction.specs.declared.decoding.Fields.{Fields}
 use Rattle.instruction.specs.declared.decoding.Fields.the-variants.{Format0, Format1, Format1i, Format1u, Format1c, Format2, Format3, Format4, Format5, Format5i}
@@ -64,12 +64,25 @@ sourceAt pos d =
       component3 = field (pos + 1) 2 d;
     }
 
--- the layout of a descriptor: the destination mask (w z y x), then each source, then bit 31
-abbrev pub descriptorLayout : List ℕ
-descriptorLayout = 4 ∷ 1 ∷ 2 ∷ 2 ∷ 2 ∷ 2 ∷ 1 ∷ 2 ∷ 2 ∷ 2 ∷ 2 ∷ 1 ∷ 2 ∷ 2 ∷ 2 ∷ 2 ∷ 1 ∷ []
+-- the destination mask: x is 8, y 4, z 2, w 1; then the three sources
+abbrev pub maskOf : ℕ → ℕ
+maskOf d = field 0 4 d
 
+abbrev pub source1Of : ℕ → Source
+source1Of d = sourceAt 4 d
+
+abbrev pub source2Of : ℕ → Source
+source2Of d = sourceAt 13 d
+
+abbrev pub source3Of : ℕ → Source
+source3Of d = sourceAt 22 d
+
+-- all parts from bit 0 up, with bit 31, which has no meaning; and their widths
 abbrev pub sourceParts : Source → List ℕ
 sourceParts s = s .negated ∷ s .component3 ∷ s .component2 ∷ s .component1 ∷ s .component0 ∷ []
 
 abbrev pub descriptorParts : ℕ → List ℕ
-descriptorParts d = (field 0 4 d ∷ sourceParts (sourceAt 4 d)) ++ (sourceParts (sourceAt 13 d) ++ (sourceParts (sourceAt 22 d) ++ (field 31 1 d ∷ [])))
+descriptorParts d = (maskOf d ∷ sourceParts (source1Of d)) ++ (sourceParts (source2Of d) ++ (sourceParts (source3Of d) ++ (field 31 1 d ∷ [])))
+
+abbrev pub descriptorLayout : List ℕ
+descriptorLayout = 4 ∷ 1 ∷ 2 ∷ 2 ∷ 2 ∷ 2 ∷ 1 ∷ 2 ∷ 2 ∷ 2 ∷ 2 ∷ 1 ∷ 2 ∷ 2 ∷ 2 ∷ 2 ∷ 1 ∷ []

@@ -5,7 +5,7 @@ use mathlib.Core.Bool.{Bool, true, false, _&&_}
 use mathlib.Core.List.{List, [], _∷_}
 use lib.Dec.{eqb}
 use Rattle.bits.specs.Fields.{field, fit, pack}
-use Rattle.binary.specs.Answers.{Answer, given, refused}
+use Rattle.answer.specs.Answers.{Answer, given, refused}
 use Rattle.instruction.specs.Operations.{tag, formatOf, entryFormat}
 use Rattle.instruction.specs.declared.operation.Format.{Format}
 use Rattle.instruction.specs.declared.operation.Format.the-variants.{Unlisted, F0, F1, F1i, F1u, F1c, F2, F3, F4, F5, F5i}

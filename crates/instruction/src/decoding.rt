@@ -30,6 +30,9 @@ pub enum Fields {
     Format5i(u32, u32, u32, u32, u32, u32, u32),
 }
 
+// MAD and MADI have fewer bits for the descriptor ID, and so reach the first 32 descriptors only.
+const MAD_DESC_BITS: u32 = 5;
+
 pub enum Decoded {
     Known(Fields),
     Unknown,
@@ -131,7 +134,7 @@ fn format_5(word: u32) -> Fields
     ensures { λ r. ⌜ r ≡ format5 word ⌝ }
 {
     let op = 0x38;
-    let desc = field(word, 0, 5);
+    let desc = field(word, 0, MAD_DESC_BITS);
     let src3 = field(word, 5, 5);
     let src2 = field(word, 10, 7);
     let src1 = field(word, 17, 5);
@@ -144,7 +147,7 @@ fn format_5i(word: u32) -> Fields
     ensures { λ r. ⌜ r ≡ format5i word ⌝ }
 {
     let op = 0x30;
-    let desc = field(word, 0, 5);
+    let desc = field(word, 0, MAD_DESC_BITS);
     let src3 = field(word, 5, 7);
     let src2 = field(word, 12, 5);
     let src1 = field(word, 17, 5);
@@ -153,7 +156,7 @@ fn format_5i(word: u32) -> Fields
     Fields::Format5i(op, desc, src3, src2, src1, idx3, dst)
 }
 
-// The fields of a word of a listed operation.
+// The fields of a word; unknown if no operation has its opcode.
 pub fn decode(word: u32) -> Decoded
     ensures { λ r. ⌜ decoded r ≡ decodeOf word ⌝ }
 {

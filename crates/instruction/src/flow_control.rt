@@ -1,4 +1,4 @@
-// What a word does to control flow, and what it uses of the tables.
+// What a word does to control flow.
 ghost use mathlib.Core.Path.{_≡_};
 ghost use Rattle.instruction.specs.Control.{ofFormat0, ofFormat2, ofFormat3, controlIn, controlOf};
 use crate::decoding::Decoded;
@@ -6,7 +6,7 @@ use crate::decoding::Fields;
 use crate::decoding::decode;
 use binary::WordAddress;
 
-// When a word of control flow is taken: always; by the result of the last comparison; by a bool register.
+// When a word of control flow is taken: always; by the outcome of comparisons, which comes from outside; by a bool register.
 pub enum Condition {
     Always,
     Compared,

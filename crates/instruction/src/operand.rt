@@ -1,14 +1,13 @@
 // What a word uses beside its registers: an operand descriptor, compare operators. The parts of an operand descriptor.
 ghost use mathlib.Core.Path.{_≡_};
 ghost use Prim.Native.Nat.{_<_};
-ghost use Rattle.bits.specs.Fields.{field};
-ghost use Rattle.instruction.specs.Operands.{descriptorIn, descriptorOf, operatorsIn, operatorsOf, sourceAt};
+ghost use Rattle.instruction.specs.Operands.{descriptorIn, descriptorOf, operatorsIn, operatorsOf, sourceAt, maskOf, source1Of, source2Of, source3Of};
 use crate::decoding::Decoded;
 use crate::decoding::Fields;
 use crate::decoding::decode;
 use bits::field;
 
-// The ID of the operand descriptor that a word uses.
+// The ID of the operand descriptor that a word uses. An unknown word uses none.
 pub enum DescriptorId {
     Id(u32),
     Unused,
@@ -40,7 +39,7 @@ pub fn descriptor_of(word: u32) -> DescriptorId
     }
 }
 
-// The compare operators of a CMP.
+// The compare operators of a CMP, 0 to 7 as the word has them.
 pub enum CompareOperators {
     // That of the components x, that of the components y.
     Compares(u32, u32),
@@ -102,25 +101,25 @@ pub struct Descriptor(pub u32);
 impl Descriptor {
     // The components that are written: x is 8, y 4, z 2, w 1.
     pub fn mask(self) -> u32
-        ensures { λ r. ⌜ r ≡ field 0 4 (self .0) ⌝ }
+        ensures { λ r. ⌜ r ≡ maskOf (self .0) ⌝ }
     {
         field(self.0, 0, 4)
     }
 
     pub fn source1(self) -> Source
-        ensures { λ r. ⌜ r ≡ sourceAt 4 (self .0) ⌝ }
+        ensures { λ r. ⌜ r ≡ source1Of (self .0) ⌝ }
     {
         source_at(self.0, 4)
     }
 
     pub fn source2(self) -> Source
-        ensures { λ r. ⌜ r ≡ sourceAt 13 (self .0) ⌝ }
+        ensures { λ r. ⌜ r ≡ source2Of (self .0) ⌝ }
     {
         source_at(self.0, 13)
     }
 
     pub fn source3(self) -> Source
-        ensures { λ r. ⌜ r ≡ sourceAt 22 (self .0) ⌝ }
+        ensures { λ r. ⌜ r ≡ source3Of (self .0) ⌝ }
     {
         source_at(self.0, 22)
     }

@@ -10,7 +10,7 @@ fn digit(value: u32) -> u8
     DIGITS[value as usize]
 }
 
-pub fn write_word(word: u32) {
+pub(crate) fn write_word(word: u32) {
     let mut text = [0; 8];
     let mut rest = word;
     let mut i = 8;

@@ -88,7 +88,7 @@ fn write_refused(word: u32, refusal: &[u8]) {
 }
 
 // A known word's line starts with the word that its fields encode to, so that the line is right only if both ways are.
-pub fn write_line(word: u32) {
+pub(crate) fn write_line(word: u32) {
     match decode(word) {
         Decoded::Unknown => write_refused(word, b" refused 09 00000000\n"),
         Decoded::Known(fields) => match encode(fields) {

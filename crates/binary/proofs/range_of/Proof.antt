@@ -11,4 +11,4 @@ mul-bytes c =
     record { fits = lt-of-le-of-lt (mul-le-mul-left (c .args .count) (le-of-lt (f .size .fits))) (mul-lt-mul-of-pos-right (f .count .fits) (pow-pos 32)) }
 
 pub range-of-spec : {M : Type 1} → statement M
-range-of-spec = tie.close (tie.spec (λ c. search needs) mul-bytes (λ c. search needs))
+range-of-spec = tie.close (tie.spec mul-bytes (λ c. search needs))

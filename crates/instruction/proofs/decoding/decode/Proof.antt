@@ -1,7 +1,7 @@
 -- `decoding::decode` meets its contract: what the arm of a format gives is what the definition gives at a word of that format. Assumes nothing.
 use mathlib.Core.Path.{_≡_, refl, sym, ap, _∙_}
 use borrow.Author.Needs.{needs}
-use Rattle.binary.specs.Answers.{Answer, given}
+use Rattle.answer.specs.Answers.{Answer, given}
 use Rattle.instruction.specs.Operations.{formatOf}
 use Rattle.instruction.specs.Words.{decodeAs, decodeOf}
 use Rattle.instruction.specs.declared.operation.Format.{Format}

@@ -9,7 +9,7 @@ use denote.Ref.{now}
 use borrow.Author.Needs.{needs}
 use borrow.Author.Tests.{eq-eqb, ne-eqb}
 use Rattle.bits.specs.Fields.{total, fit, pack}
-use Rattle.binary.specs.Answers.{Answer, refused}
+use Rattle.answer.specs.Answers.{Answer, refused}
 use Rattle.instruction.specs.Operations.{tag, entryFormat}
 use Rattle.instruction.specs.Words.{layout, orRefused, codeOf}
 use Rattle.instruction.specs.declared.operation.Format.{Format}

@@ -1,0 +1,1 @@
+// What calls give back. The definitions stand in specs/.
