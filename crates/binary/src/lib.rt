@@ -1,6 +1,6 @@
 // Byte offsets and word addresses, little-endian numbers in a file, ranges of bytes. Every function is total: a byte past the end reads as 0, and no sum wraps.
 ghost use mathlib.Core.Path.{_≡_};
-ghost use lib.ListN.{length};
+ghost use lib.ListN.{length, take, drop};
 ghost use Rattle.binary.specs.Addresses.{offsetOfWord};
 ghost use Rattle.binary.specs.Bytes.{u8At, u16At, u32At};
 ghost use Rattle.binary.specs.Ranges.{rangeOf, inside, share};
@@ -16,6 +16,14 @@ pub fn offset_of_word(a: WordAddress) -> ByteOffset
     ensures { λ r. ⌜ r ≡ offsetOfWord a ⌝ }
 {
     ByteOffset(a.0 as u64 * 4)
+}
+
+// The bytes from an offset on; none past the end.
+pub fn tail(s: &[u8], at: ByteOffset) -> &[u8]
+    ensures { λ r. ⌜ now r ≡ drop (at .0) (now (s .entry)) ⌝ }
+{
+    let from = at.0 as usize;
+    if from <= s.len() { &s[from..] } else { &s[..0] }
 }
 
 pub fn u8_at(s: &[u8], at: ByteOffset) -> u8
@@ -61,6 +69,19 @@ pub fn range_of(start: ByteOffset, count: u32, size: u32) -> Range
 {
     let bytes = count as u64 * size as u64;
     Range { start, size: bytes }
+}
+
+// The bytes of a range, as far as the file has them.
+pub fn bytes_of(file: &[u8], r: Range) -> &[u8]
+    ensures { λ s. ⌜ now s ≡ take (r .size) (drop (r .start .0) (now (file .entry))) ⌝ }
+{
+    let rest = tail(file, r.start);
+    let size = r.size as usize;
+    if size <= rest.len() {
+        &rest[..size]
+    } else {
+        rest
+    }
 }
 
 // Whether the range lies inside the file. The test subtracts, so that it holds for every range.

@@ -1,0 +1,34 @@
+-- `executables::has_misplaced_tables` meets its contract. Assumes nothing.
+use mathlib.Core.Path.{sym, ap, _∙_}
+use borrow.Author.Needs.{needs}
+use Rattle.container.specs.Executable.{misplacedTables}
+use Rattle.container.proofs.executables.has_misplaced_tables.Statement.{statement}
+use Rattle.container.proofs.executables.has_misplaced_tables.Tie as tie
+
+returns : tie.Need-returns
+unfolding misplacedTables
+returns c =
+    rw (sym (c .before .is-misplaced .ensures) ∙ c .if1 .taken)
+
+returns-2 : tie.Need-returns-2
+unfolding misplacedTables
+returns-2 c =
+    rw (sym (c .before .before .before .is-misplaced .ensures) ∙ c .before .before .if1 .left, sym (c .before .is-misplaced2 .ensures) ∙ c .if2 .taken)
+
+returns-3 : tie.Need-returns-3
+unfolding misplacedTables
+returns-3 c =
+    rw (sym (c .before .before .before .before .before .is-misplaced .ensures) ∙ c .before .before .before .before .if1 .left, sym (c .before .before .before .is-misplaced2 .ensures) ∙ c .before .before .if2 .left, sym (c .before .is-misplaced3 .ensures) ∙ c .if3 .taken)
+
+returns-4 : tie.Need-returns-4
+unfolding misplacedTables
+returns-4 c =
+    rw (sym (c .before .before .before .before .before .before .before .is-misplaced .ensures) ∙ c .before .before .before .before .before .before .if1 .left, sym (c .before .before .before .before .before .is-misplaced2 .ensures) ∙ c .before .before .before .before .if2 .left, sym (c .before .before .before .is-misplaced3 .ensures) ∙ c .before .before .if3 .left, sym (c .before .is-misplaced4 .ensures) ∙ c .if4 .taken)
+
+returns-5 : tie.Need-returns-5
+unfolding misplacedTables
+returns-5 c =
+    rw (sym (c .before .before .before .before .before .before .before .before .is-misplaced .ensures) ∙ c .before .before .before .before .before .before .before .if1 .left, sym (c .before .before .before .before .before .before .is-misplaced2 .ensures) ∙ c .before .before .before .before .before .if2 .left, sym (c .before .before .before .before .is-misplaced3 .ensures) ∙ c .before .before .before .if3 .left, sym (c .before .before .is-misplaced4 .ensures) ∙ c .before .if4 .left) (c .is-misplaced5 .ensures)
+
+pub has-misplaced-tables-spec : {M : Type 1} → statement M
+has-misplaced-tables-spec = tie.close (tie.spec (λ c κs. search needs) returns (λ c κs. search needs) returns-2 (λ c κs. search needs) returns-3 (λ c κs. search needs) returns-4 (λ c κs. search needs) returns-5)

@@ -1,0 +1,3 @@
+pub mod Executable
+pub mod Placement
+pub mod Program
