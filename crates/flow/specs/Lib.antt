@@ -1,0 +1,6 @@
+pub mod Flow
+pub mod Own
+pub mod Rules
+pub mod Stepping
+pub mod Visits
+pub mod WholeRun
