@@ -1,12 +1,12 @@
 -- What a table that is not misplaced, and one that does not meet the opcode table, say of bytes. Assumes nothing.
 use mathlib.Core.Path.{_≡_, refl}
-use mathlib.Core.Bool.{Bool, true, false, not, _||_}
+use mathlib.Core.Bool.{Bool, true, false, not, _&&_, _||_}
 use mathlib.Core.List.{List}
 use Prim.Native.Nat.{ℕ, _+_, _*_, _%_, _≤_}
 use native.Mathlib.Omega.{arith}
-use lib.Dec.{eqb}
-use borrow.Author.Tests.{eq-eqb, ne-eqb, eqb-true, leb-true}
-use Rattle.binary.proofs.Laws.{both-of-byte}
+use lib.Dec.{T, eqb}
+use borrow.Author.Tests.{eq-eqb, ne-eqb, eqb-true, leb-true, le-leb}
+use Rattle.binary.proofs.Laws.{byte-of-both, both-of-byte}
 use Rattle.binary.specs.Bytes.{u32At}
 use Rattle.binary.specs.Ranges.{Holds, inside}
 use Rattle.binary.specs.declared.Range.{Range}
@@ -37,7 +37,23 @@ placed align size length section base field full e =
     by true false p q r = absurd (let z : _≡_ {A = ℕ} 0 1 = cc in omega arith)
     by false b p q r = absurd (let z : _≡_ {A = ℕ} 0 1 = cc in omega arith)
 
+-- .. and one that does is not misplaced
+pub well-placed : (align size length : ℕ) (section : List ℕ) (base field : ℕ)
+    → Placed align size length base (u32At section field) (u32At section (field + 4))
+    → misplaced align size length (tableAt section base field) ≡ false
+unfolding misplaced
+well-placed align size length section base field p = rw (eq-eqb _ _ (p .aligned), le-leb _ _ (p .ends)) (never (eqb (u32At section (field + 4)) 0))
+  where
+    never : (b : Bool) → (not b && false) ≡ false
+    never true = refl
+    never false = refl
+
 -- no byte is in the opcode table and in a range that it does not meet
 pub apart : (words : Table) (r : Range) → wordsMeet words r ≡ false → (k : ℕ) → Holds (tableRange 4 words) k → Holds r k → ⊥
 unfolding wordsMeet
 apart words r e k p q = rw e at (both-of-byte (tableRange 4 words) r k p q)
+
+-- .. and some byte is in both if they meet
+pub meeting : (words : Table) (r : Range) → T (wordsMeet words r) → (k : ℕ) × (Holds (tableRange 4 words) k × Holds r k)
+unfolding wordsMeet
+meeting words r = byte-of-both (tableRange 4 words) r

@@ -23,7 +23,7 @@ tableAt section base field =
 abbrev pub tableRange : ℕ → Table → Range
 tableRange size t = rangeOf (t .start) (t .count) size
 
--- 'the others start at multiples of 4 from their section start', and outside; 'A table with count 0 has no offset to test'
+-- 'the others start at multiples of 4 from their section start': unaligned, counted from there, or outside the file; never with count 0, which 'has no offset to test'
 unfoldable pub misplaced : ℕ → ℕ → ℕ → Table → Bool
 misplaced align size length t =
     not (eqb (t .count) 0) && (not (eqb (t .offset % align) 0) || not (inside (tableRange size t) length))

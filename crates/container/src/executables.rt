@@ -42,6 +42,7 @@ fn executable_base(file: &[u8], index: u32) -> ByteOffset
     ByteOffset(u32_at(file, ByteOffset(8 + index as u64 * 4)) as u64)
 }
 
+// What the DVLE holds whose offset is at an index of the header; past the header's count it is whatever stands there, so a caller tests 29 first.
 pub fn executable_of(file: &[u8], index: u32) -> Executable
     ensures { λ r. ⌜ r ≡ executableOf (now (file .entry)) index ⌝ }
 {

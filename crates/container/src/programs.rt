@@ -47,6 +47,7 @@ fn program_base(file: &[u8]) -> ByteOffset
     ByteOffset(8 + executable_count(file) as u64 * 4)
 }
 
+// What the DVLP holds, in a file of any kind.
 pub fn program_of(file: &[u8]) -> Program
     ensures { λ r. ⌜ r ≡ programOf (now (file .entry)) ⌝ }
 {

@@ -1,0 +1,4 @@
+pub mod Constants
+pub mod Entries
+pub mod Float24
+pub mod Names
