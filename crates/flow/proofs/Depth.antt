@@ -13,7 +13,8 @@ use Rattle.instruction.specs.declared.flow_control.Condition.{Condition}
 use Rattle.instruction.specs.declared.flow_control.Control.{Control}
 use Rattle.instruction.specs.declared.flow_control.Control.the-variants.{Unknown, Plain, Emit, End, Break, If, Loop, Call, Jump}
 use Rattle.flow.specs.Own.{nextOf, spans, ownFrom, ownWords}
-use Rattle.flow.specs.Rules.{Code, Rules, Opens, inIf, inLoop, inCall, pick}
+use Rattle.flow.specs.Rules.{Code, Rules, inIf, inLoop, inCall, pick}
+use Rattle.flow.specs.declared.look.Opens.{Opens}
 use Rattle.flow.specs.Visits.{bad22, bad23, bad24, bad25, bad26, Trace, nothing, andThen, unlessFault, visiting, Tracer, parts, faultAt, visit, region, traceTo, spare, size, trace}
 use Rattle.flow.proofs.Tests.{not-bad, both, passed, last-passed, pick-cong}
 

@@ -1,7 +1,11 @@
 pub mod Depth
+pub mod Looks
 pub mod Machine
+pub mod Marks
+pub mod OwnSteps
 pub mod Region
 pub mod Stops
+pub mod Replay
 pub mod Tests
 pub mod Trials
 pub mod Weights

@@ -14,7 +14,8 @@ use Rattle.instruction.specs.declared.flow_control.Condition.{Condition}
 use Rattle.instruction.specs.declared.flow_control.Control.{Control}
 use Rattle.instruction.specs.declared.flow_control.Control.the-variants.{Unknown, Plain, Emit, End, Break, If, Loop, Call, Jump}
 use Rattle.flow.specs.Own.{nextOf, ownWords, has}
-use Rattle.flow.specs.Rules.{Code, Rules, Opens, none-open, inIf, inLoop, inCall, pick}
+use Rattle.flow.specs.Rules.{Code, Rules, none-open, inIf, inLoop, inCall, pick}
+use Rattle.flow.specs.declared.look.Opens.{Opens}
 use Rattle.flow.specs.Stepping.{Settings, Open, main, part, body, called, State, state, Next, ends, stuck, goes, arrive, break, holds, reads, on, execute, someOpen, step, start, Run, done, failed, unfinished, after, onward, run}
 use Rattle.flow.specs.Visits.{isEnd, mainTrace, weighted}
 use Rattle.flow.specs.WholeRun.{GoodWord, openCalls, openIfs, openLoops, Good, All, nil, each, measured}

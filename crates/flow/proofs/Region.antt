@@ -14,7 +14,8 @@ use Rattle.instruction.specs.declared.flow_control.Condition.{Condition}
 use Rattle.instruction.specs.declared.flow_control.Control.{Control}
 use Rattle.instruction.specs.declared.flow_control.Control.the-variants.{Unknown, Plain, Emit, End, Break, If, Loop, Call, Jump}
 use Rattle.flow.specs.Own.{nextOf, spans, ownFrom, ownWords, has}
-use Rattle.flow.specs.Rules.{Code, Rules, Opens, none-open, inIf, inLoop, inCall, pick}
+use Rattle.flow.specs.Rules.{Code, Rules, none-open, inIf, inLoop, inCall, pick}
+use Rattle.flow.specs.declared.look.Opens.{Opens}
 use Rattle.flow.specs.Visits.{Visit, Trace, nothing, follow, andThen, unlessFault, Tracer, parts, isEnd, faultAt, visit, region, traceTo, size, trace, mainTrace, weighted}
 use Rattle.flow.specs.WholeRun.{GoodWord}
 use Rattle.flow.proofs.Depth.{Passed, fault-none, if-bounds, loop-bounds, call-bounds, next-in}

@@ -12,17 +12,18 @@ use Rattle.answer.specs.declared.Fault.the-variants.{Nothing, At}
 use Rattle.instruction.specs.declared.flow_control.Control.{Control}
 use Rattle.instruction.specs.declared.flow_control.Control.the-variants.{Unknown, Plain, Emit, End, Break, If, Loop, Call, Jump}
 use Rattle.flow.specs.Own.{nextOf, ownWords, has}
-use Rattle.flow.specs.Rules.{Code, Rules, Opens, none-open, inIf, inLoop, inCall, pick}
+use Rattle.flow.specs.Rules.{Code, Rules, none-open, inIf, inLoop, inCall, pick}
+use Rattle.flow.specs.declared.look.Opens.{Opens}
 use Rattle.flow.specs.Visits.{Visit, Trace, nothing, follow, andThen, unlessFault, visiting, Tracer, parts, isEnd, faultAt, visit, region, traceTo, size, trace, mainTrace, firstFault, flowFault, total}
 use Rattle.flow.proofs.Depth.{Passed, fault-none, if-bounds, loop-bounds, call-bounds, next-in, fewer, nearer, spare-if, spare-loop, spare-call}
 use Rattle.flow.proofs.Tests.{not-bad, passed, last-passed}
 
-isFault : Fault → Bool
+unfoldable pub isFault : Fault → Bool
 isFault (At n p) = true
 isFault Nothing = false
 
 module _ (C : Code) (R : Rules) where
-  faulty : List Visit → Bool
+  unfoldable pub faulty : List Visit → Bool
   faulty [] = false
   faulty (v ∷ vs) = isFault (faultAt C R (v .opens) (v .word) (v .end)) || faulty vs
 
@@ -35,7 +36,7 @@ module _ (C : Code) (R : Rules) where
       by true e = refl
       by false e = e
 
-  abbrev Told : Trace → Type 0
+  abbrev pub Told : Trace → Type 0
   Told t = t .stopped ≡ faulty (t .visits)
 
   and-told : (t more : Trace) → Told t → Told more → Told (andThen t more)
@@ -45,7 +46,7 @@ module _ (C : Code) (R : Rules) where
       by true e = sym e ∙ a
       by false e = rw (faulty-append (t .visits) (more .visits), ← a, e) b
 
-  abbrev Tells : Tracer → ℕ → Type 0
+  abbrev pub Tells : Tracer → ℕ → Type 0
   Tells f n = (x : Opens) (w p E : ℕ) → E ≤ C .words → size C R x p E < n → Told (f x w p E)
 
   nothing-told : Told nothing
@@ -53,7 +54,7 @@ module _ (C : Code) (R : Rules) where
   nothing-told = refl
 
   module _ (f : Tracer) (n : ℕ) (h : Tells f n) (x : Opens) (w p E : ℕ) (l : p < E) (m : E ≤ C .words) (z : size C R x p E ≤ n) where
-    parts-told : (i : Control) → Passed C R i x p E → Told (parts R f i x w p)
+    pub parts-told : (i : Control) → Passed C R i x p E → Told (parts R f i x w p)
     unfolding parts
     parts-told Unknown o = nothing-told
     parts-told Plain o = nothing-told
@@ -93,7 +94,7 @@ module _ (C : Code) (R : Rules) where
   region-told f n h x w p E true y m z = visit-told f n h x w p E (ltb-true p E y) m z
   region-told f n h x w p E false y m z = nothing-told
 
-  trace-told : (n : ℕ) → Tells (traceTo C R n) n
+  pub trace-told : (n : ℕ) → Tells (traceTo C R n) n
   unfolding traceTo region
   trace-told zero x w p E m z = absurd (omega arith)
   trace-told (suc n) x w p E m z = region-told (traceTo C R n) n (trace-told n) x w p E (ltb p E) refl m (omega arith)

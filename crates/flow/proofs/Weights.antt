@@ -11,7 +11,8 @@ use Rattle.answer.specs.declared.Fault.the-variants.{Nothing, At}
 use Rattle.instruction.specs.declared.flow_control.Control.{Control}
 use Rattle.instruction.specs.declared.flow_control.Control.the-variants.{Unknown, Plain, Emit, End, Break, If, Loop, Call, Jump}
 use Rattle.flow.specs.Own.{nextOf}
-use Rattle.flow.specs.Rules.{Code, Rules, Opens, none-open, inIf, inLoop, inCall, pick}
+use Rattle.flow.specs.Rules.{Code, Rules, none-open, inIf, inLoop, inCall, pick}
+use Rattle.flow.specs.declared.look.Opens.{Opens}
 use Rattle.flow.specs.Visits.{Visit, Trace, nothing, follow, andThen, unlessFault, visiting, Tracer, parts, faultAt, visit, region, traceTo, trace, mainTrace}
 
 pub data Each (P : Visit → Type 0) : List Visit → Type 0 where
@@ -22,9 +23,16 @@ each-append : {P : Visit → Type 0} {vs us : List Visit} → Each P vs → Each
 each-append none b = b
 each-append (one p a) b = one p (each-append a b)
 
-each-map : {P Q : Visit → Type 0} {vs : List Visit} → ((v : Visit) → P v → Q v) → Each P vs → Each Q vs
+pub each-map : {P Q : Visit → Type 0} {vs : List Visit} → ((v : Visit) → P v → Q v) → Each P vs → Each Q vs
 each-map f none = none
 each-map f (one {v = v} p a) = one (f v p) (each-map f a)
+
+pub and-each : {P : Visit → Type 0} (t more : Trace) → Each P (t .visits) → Each P (more .visits) → Each P (andThen t more .visits)
+and-each {P} t more a c = by (t .stopped)
+  where
+    by : (s : Bool) → Each P (follow s (t .visits) more .visits)
+    by true = a
+    by false = each-append a c
 
 module _ (C : Code) (R : Rules) (b : ℕ) (same : (r : ℕ) → R .turns r ≡ b) where
   -- so many LOOPs deeper, and so much heavier
@@ -35,13 +43,6 @@ module _ (C : Code) (R : Rules) (b : ℕ) (same : (r : ℕ) → R .turns r ≡ b
 
   abbrev Weighed : Tracer → Type 0
   Weighed f = (x : Opens) (w p E : ℕ) → Each (Weighs x w) (f x w p E .visits)
-
-  and-weighed : {P : Visit → Type 0} (t more : Trace) → Each P (t .visits) → Each P (more .visits) → Each P (andThen t more .visits)
-  and-weighed {P} t more a c = by (t .stopped)
-    where
-      by : (s : Bool) → Each P (follow s (t .visits) more .visits)
-      by true = a
-      by false = each-append a c
 
   from-if : (x : Opens) (w : ℕ) (v : Visit) → Weighs (inIf x) w v → Weighs x w v
   from-if x w v q = record { d = q .d; deeper = q .deeper; weighs = q .weighs }
@@ -63,7 +64,7 @@ module _ (C : Code) (R : Rules) (b : ℕ) (same : (r : ℕ) → R .turns r ≡ b
     parts-weighed End = none
     parts-weighed (Break c) = none
     parts-weighed (If c dst num) =
-        and-weighed (f (inIf x) w (p + 1) (dst .0)) (f (inIf x) w (dst .0) (dst .0 + num)) (each-map (from-if x w) (h (inIf x) w (p + 1) (dst .0))) (each-map (from-if x w) (h (inIf x) w (dst .0) (dst .0 + num)))
+        and-each (f (inIf x) w (p + 1) (dst .0)) (f (inIf x) w (dst .0) (dst .0 + num)) (each-map (from-if x w) (h (inIf x) w (p + 1) (dst .0))) (each-map (from-if x w) (h (inIf x) w (dst .0) (dst .0 + num)))
     parts-weighed (Loop r dst) = each-map (from-loop x w r) (h (inLoop x) (w * R .turns r) (p + 1) (dst .0 + 1))
     parts-weighed (Call c dst num) = each-map (from-call x w) (h (inCall x) w (dst .0) (dst .0 + num))
     parts-weighed (Jump c dst num) = none
@@ -77,7 +78,7 @@ module _ (C : Code) (R : Rules) (b : ℕ) (same : (r : ℕ) → R .turns r ≡ b
     visit-weighed =
         one {v = record { word = p; end = E; opens = x; weight = w }} (record { d = 0; deeper = omega arith; weighs = rw (pow-zero b) (omega arith) })
         (unless-weighed (faultAt C R x p E) (andThen (parts R f (C .control p) x w p) (f x w (nextOf (C .control p) p) E))
-        (and-weighed (parts R f (C .control p) x w p) (f x w (nextOf (C .control p) p) E) (parts-weighed (C .control p)) (h x w (nextOf (C .control p) p) E)))
+        (and-each (parts R f (C .control p) x w p) (f x w (nextOf (C .control p) p) E) (parts-weighed (C .control p)) (h x w (nextOf (C .control p) p) E)))
 
     region-weighed : (c : Bool) → Each (Weighs x w) (pick c (visit C R f x w p E) nothing .visits)
     region-weighed true = visit-weighed

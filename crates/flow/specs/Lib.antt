@@ -1,4 +1,5 @@
 pub mod Flow
+pub mod Inside
 pub mod Own
 pub mod Rules
 pub mod Stepping

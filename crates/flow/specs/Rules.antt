@@ -4,6 +4,7 @@ use Prim.Native.Nat.{ℕ, _+_}
 use mathlib.Core.Bool.{Bool, true, false}
 use Rattle.instruction.specs.declared.flow_control.Control.{Control}
 use Rattle.instruction.specs.declared.operand.DescriptorId.{DescriptorId}
+use Rattle.flow.specs.declared.look.Opens.{Opens}
 
 -- a program: how many words and descriptors it has, and of each word what it does to control flow and which descriptor it uses
 pub record Code : Type 0 where
@@ -21,13 +22,7 @@ pub record Rules : Type 0 where
   pub turns : ℕ → ℕ
   pub emits : Bool
 
--- what is open at a word, that of callers included; and whether a LOOP is open in the same main or called region
-pub record Opens : Type 0 where
-  pub calls : ℕ
-  pub ifs : ℕ
-  pub loops : ℕ
-  pub looped : Bool
-
+-- what is open, that of callers included: nothing; one more of each. `looped` is whether a LOOP is open in the same main or called region
 abbrev pub none-open : Opens
 none-open = record { calls = 0; ifs = 0; loops = 0; looped = false }
 

@@ -11,7 +11,8 @@ use Rattle.answer.specs.declared.Fault.the-variants.{Nothing, At}
 use Rattle.instruction.specs.declared.flow_control.Control.{Control}
 use Rattle.instruction.specs.declared.flow_control.Control.the-variants.{Unknown, Plain, Emit, End, Break, If, Loop, Call, Jump}
 use Rattle.flow.specs.Own.{nextOf, spans, ownWords, has}
-use Rattle.flow.specs.Rules.{Code, Rules, Opens, none-open, inIf, inLoop, inCall, pick}
+use Rattle.flow.specs.Rules.{Code, Rules, none-open, inIf, inLoop, inCall, pick}
+use Rattle.flow.specs.declared.look.Opens.{Opens}
 
 -- a visit: the word, the end of its region, what is open, and what the visit adds to the total
 pub record Visit : Type 0 where

@@ -1,0 +1,91 @@
+-- The parts that a visited word asks for: inside the words, weighing what they should, smaller; and it goes on further in its region. Assumes nothing.
+use mathlib.Core.Path.{_≡_, refl, sym, ap, _∙_}
+use mathlib.Core.Bool.{Bool, true, false}
+use Prim.Native.Nat.{ℕ, zero, suc, _+_, _*_, _^_, _≤_, _<_}
+use native.Mathlib.Nat.{pow-suc}
+use native.Mathlib.Numerals.{add-one}
+use native.Mathlib.Omega.{arith}
+use borrow.Author.Tests.{leb-false}
+use Rattle.answer.specs.declared.Fault.{Fault}
+use Rattle.answer.specs.declared.Fault.the-variants.{Nothing, At}
+use Rattle.instruction.specs.declared.flow_control.Control.{Control}
+use Rattle.instruction.specs.declared.flow_control.Control.the-variants.{Unknown, Plain, Emit, End, Break, If, Loop, Call, Jump}
+use Rattle.flow.specs.Inside.{rulesOf, unless, partOf, partsOf, lookOf, Weighs}
+use Rattle.flow.specs.Rules.{Code, Rules, inIf, inLoop, inCall}
+use Rattle.flow.specs.Visits.{faultAt, size}
+use Rattle.flow.specs.declared.look.Allowed.{Allowed}
+use Rattle.flow.specs.declared.look.Look.{Look}
+use Rattle.flow.specs.declared.look.Look.the-variants.{Refuse, Next, One, Two}
+use Rattle.flow.specs.declared.look.Opens.{Opens}
+use Rattle.flow.specs.declared.look.Part.{Part}
+use Rattle.flow.proofs.Depth.{Passed, fault-none, if-bounds, loop-bounds, call-bounds, fewer, spare-if, spare-loop, spare-call}
+
+-- at most 65536
+pub light : (l : ℕ) → l ≤ 2 → 256 ^ l ≤ 65536
+light zero h = omega arith
+light (suc zero) h = omega arith
+light (suc (suc zero)) h = omega arith
+light (suc (suc (suc l))) h = absurd (omega arith)
+
+-- further on in a region there is less
+pub later : (C : Code) (R : Rules) (x : Opens) (p q E : ℕ) → p ≤ q → size C R x q E ≤ size C R x p E
+unfolding size
+later C R x p q E h = omega arith
+
+module _ (C : Code) (a : Allowed) (x : Opens) (w p E : ℕ) where
+  abbrev R : Rules
+  R = rulesOf a
+
+  pub record Fits (r : Part) : Type 0 where
+    pub within : r .to .0 ≤ C .words
+    pub weighs : Weighs a r
+    pub smaller : size C R (r .opens) (r .from .0) (r .to .0) < size C R x p E
+
+  abbrev Onward : ℕ → Type 0
+  Onward q = (p < q) × (q ≤ E)
+
+  abbrev pub AllFit : Look → Type 0
+  AllFit (Refuse n) = Unit {0}
+  AllFit Next = Unit {0}
+  AllFit (One r next) = Fits r × Onward (next .0)
+  AllFit (Two r s next) = Fits r × Fits s × Onward (next .0)
+
+  module _ (l : p < E) (h : E ≤ C .words) (g : Weighs a (partOf x w p E)) where
+    parts-fit : (i : Control) → Passed C R i x p E → AllFit (partsOf i x w p)
+    parts-fit Unknown o = tt
+    parts-fit Plain o = tt
+    parts-fit Emit o = tt
+    parts-fit End o = tt
+    parts-fit (Break c) o = tt
+    parts-fit (If c dst num) o =
+        let b = if-bounds C R c dst num p E (o .bounds) in
+        let s = spare-if C R x (o .room) in (
+          record { within = omega arith; weighs = g; smaller = fewer C R x (inIf x) p E (p + 1) (dst .0) s (omega arith) },
+          record { within = omega arith; weighs = g; smaller = fewer C R x (inIf x) p E (dst .0) (dst .0 + num) s (omega arith) },
+          omega arith,
+        )
+    parts-fit (Loop r dst) o =
+        let b = loop-bounds C R r dst p E (o .bounds) in
+        let heavier : w * 256 ≡ 256 ^ (x .loops + 1) = rw (add-one (x .loops), pow-suc 256 (x .loops), g .0) in (
+          record {
+            within = omega arith;
+            weighs = (heavier, omega (arith, leb-false (a .loops) (x .loops) (o .room)), g .2);
+            smaller = fewer C R x (inLoop x) p E (p + 1) (dst .0 + 1) (spare-loop C R x (o .room)) (omega arith);
+          },
+          omega arith,
+        )
+    parts-fit (Call c dst num) o =
+        let b = call-bounds C R c dst num p E (o .bounds) in
+        (record { within = omega arith; weighs = g; smaller = fewer C R x (inCall x) p E (dst .0) (dst .0 + num) (spare-call C R x (o .room)) (omega arith) }, omega arith)
+    parts-fit (Jump c dst num) o = tt
+
+    look-fits : AllFit (lookOf C R x w p E)
+    unfolding lookOf
+    look-fits = by (faultAt C R x p E) refl
+      where
+        by : (f : Fault) → faultAt C R x p E ≡ f → AllFit (unless f (partsOf (C .control p) x w p))
+        by (At n q) e = tt
+        by Nothing e = parts-fit (C .control p) (fault-none C R x p E e)
+
+    pub fits-at : {k : Look} → k ≡ lookOf C R x w p E → AllFit k
+    fits-at e = rw e look-fits

@@ -1,0 +1,119 @@
+-- What the functions inside this crate compute, for their contracts: the steps of the check, one word at a time. The rules are in Own and Visits.
+-- Assumes nothing.
+use mathlib.Core.Path.{_≡_}
+use Prim.Native.Nat.{ℕ, zero, suc, _+_, _*_, _^_, _≤_}
+use mathlib.Core.Bool.{Bool, true, not, _&&_}
+use mathlib.Core.List.{List, [], _∷_}
+use lib.Dec.{leb, ltb}
+use lib.ListN.{set}
+use Rattle.answer.specs.Faults.{faultIf, orElse}
+use Rattle.answer.specs.declared.Fault.{Fault}
+use Rattle.answer.specs.declared.Fault.the-variants.{Nothing}
+use Rattle.answer.specs.declared.Fault.the-variants as fault
+use Rattle.binary.specs.Addresses.{wordAddress}
+use Rattle.instruction.specs.declared.flow_control.Control.{Control}
+use Rattle.instruction.specs.declared.flow_control.Control.the-variants.{Unknown, Plain, Emit, End, Break, If, Loop, Call, Jump}
+use Rattle.flow.specs.Own.{nextOf, spans, ownWords, has}
+use Rattle.flow.specs.Rules.{Code, Rules, inIf, inLoop, inCall, pick}
+use Rattle.flow.specs.Visits.{Visit, faultAt, trace}
+use Rattle.flow.specs.declared.look.Allowed.{Allowed}
+use Rattle.flow.specs.declared.look.Look.{Look}
+use Rattle.flow.specs.declared.look.Look.the-variants.{Refuse, Next, One, Two}
+use Rattle.flow.specs.declared.look.Opens.{Opens}
+use Rattle.flow.specs.declared.look.Part.{Part}
+use Rattle.flow.specs.declared.scan.Scan.{Scan}
+use Rattle.flow.specs.declared.scan.Scan.the-variants as scan
+use Rattle.flow.specs.declared.own.After.{After}
+use Rattle.flow.specs.declared.own.After.the-variants.{At, Stop}
+
+-- the own word after the one at p, in a region that ends at E
+abbrev pub afterIf : ℕ → ℕ → ℕ → ℕ → After
+afterIf p E dst num = pick (leb (p + 2) dst && leb (dst + num) E) (At (dst + num)) Stop
+
+abbrev pub afterLoop : ℕ → ℕ → ℕ → After
+afterLoop p E dst = pick (leb (p + 1) dst && ltb dst E) (At (dst + 1)) Stop
+
+abbrev pub afterOf : Control → ℕ → ℕ → After
+afterOf i p E = pick (spans i p E) (At (nextOf i p)) Stop
+
+-- the rules of the code's limits: every LOOP is counted as 256 turns
+abbrev pub rulesOf : Allowed → Rules
+rulesOf a = record { calls = a .calls; ifs = a .ifs; loops = a .loops; most = a .most; turns = λ r. 256; emits = a .emits }
+
+abbrev pub partOf : Opens → ℕ → ℕ → ℕ → Part
+partOf x w p E = record { opens = x; weight = w; from = wordAddress p; to = wordAddress E }
+
+-- a fault is refused by its number; else what follows
+abbrev pub unless : Fault → Look → Look
+unless (fault.At number word) next = Refuse number
+unless Nothing next = next
+
+-- the tests of each kind of word that has some, in the order 24, 25 or 26, and its parts
+unfoldable pub lookIf : Rules → Opens → ℕ → ℕ → ℕ → ℕ → ℕ → Look
+lookIf R x w p E dst num =
+    unless (orElse (faultIf (not (leb (p + 2) dst && leb (dst + num) E)) 24 p) (faultIf (leb (R .ifs) (x .ifs)) 25 p))
+    (Two (partOf (inIf x) w (p + 1) dst) (partOf (inIf x) w dst (dst + num)) (wordAddress (dst + num)))
+
+unfoldable pub lookLoop : Rules → Opens → ℕ → ℕ → ℕ → ℕ → Look
+lookLoop R x w p E dst =
+    unless (orElse (faultIf (not (leb (p + 1) dst && ltb dst E)) 24 p) (faultIf (leb (R .loops) (x .loops)) 25 p))
+    (One (partOf (inLoop x) (w * 256) (p + 1) (dst + 1)) (wordAddress (dst + 1)))
+
+unfoldable pub lookCall : Rules → Opens → ℕ → ℕ → ℕ → ℕ → ℕ → Look
+lookCall R x w p words dst num =
+    unless (orElse (faultIf (not (leb 1 num && leb (dst + num) words)) 24 p) (faultIf (leb (R .calls) (x .calls)) 25 p))
+    (One (partOf (inCall x) w dst (dst + num)) (wordAddress (p + 1)))
+
+unfoldable pub lookJump : Code → ℕ → ℕ → ℕ → Look
+lookJump C p E dst = unless (faultIf (not (ltb p dst && (ltb dst E && has (ownWords C (p + 1) E) dst))) 26 p) Next
+
+-- the parts of a word without a fault
+abbrev pub partsOf : Control → Opens → ℕ → ℕ → Look
+partsOf Unknown x w p = Next
+partsOf Plain x w p = Next
+partsOf Emit x w p = Next
+partsOf End x w p = Next
+partsOf (Break c) x w p = Next
+partsOf (If c dst num) x w p = Two (partOf (inIf x) w (p + 1) (dst .0)) (partOf (inIf x) w (dst .0) (dst .0 + num)) (wordAddress (dst .0 + num))
+partsOf (Loop r dst) x w p = One (partOf (inLoop x) (w * 256) (p + 1) (dst .0 + 1)) (wordAddress (dst .0 + 1))
+partsOf (Call c dst num) x w p = One (partOf (inCall x) w (dst .0) (dst .0 + num)) (wordAddress (p + 1))
+partsOf (Jump c dst num) x w p = Next
+
+-- a visited word: its fault, or its parts
+unfoldable pub lookOf : Code → Rules → Opens → ℕ → ℕ → ℕ → Look
+lookOf C R x w p E = unless (faultAt C R x p E) (partsOf (C .control p) x w p)
+
+-- a region weighs 256 for each LOOP open, multiplied; never more than two are
+abbrev pub Weighs : Allowed → Part → Type 0
+Weighs a r = (r .weight ≡ 256 ^ r .opens .loops) × (r .opens .loops ≤ a .loops) × (a .loops ≤ 2)
+
+-- what scanning visits leaves: the total, or the first fault's number and word; and the marks
+pub record Scanned : Type 0 where
+  pub flow : Scan
+  pub marks : List Bool
+
+abbrev pub scanned : Scan → List Bool → Scanned
+scanned f m = record { flow = f; marks = m }
+
+abbrev pub stopOr : Fault → ℕ → List Bool → Scanned → Scanned
+stopOr (fault.At number word) p m next = scanned (scan.Stop number (wordAddress p)) m
+stopOr Nothing p m next = next
+
+-- visits one after another, with a total and marks before them: 27, the mark, then 22 to 26
+module _ (C : Code) (R : Rules) where
+  unfoldable pub replay : List Visit → ℕ → List Bool → Scanned
+  replay [] t m = scanned (scan.Go t) m
+  replay (v ∷ vs) t m =
+      let m′ = set m (v .word) true in
+      let rest = replay vs (t + v .weight) m′ in
+      let on = stopOr (faultAt C R (v .opens) (v .word) (v .end)) (v .word) m′ rest in
+      pick (ltb (R .most) (t + v .weight)) (scanned (scan.Stop 27 (wordAddress (v .word))) m) on
+
+-- how many of the first n have a property
+unfoldable pub countTo : ℕ → (ℕ → Bool) → ℕ
+countTo zero f = 0
+countTo (suc n) f = countTo n f + pick (f n) 1 0
+
+-- the visits of a part
+abbrev pub scanOf : Code → Allowed → Part → ℕ → List Bool → Scanned
+scanOf C a r t m = replay C (rulesOf a) (trace C (rulesOf a) (r .opens) (r .weight) (r .from .0) (r .to .0) .visits) t m
