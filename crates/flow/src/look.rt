@@ -88,7 +88,7 @@ fn look_loop(allowed: Allowed, opens: Opens, weight: u32, p: u32, end: u32, dst:
     requires { ⌜ (p < end) × (weight ≤ 65536) ⌝ }
     ensures { λ r. ⌜ r ≡ lookLoop (rulesOf allowed) opens weight p end dst ⌝ }
 {
-    let After::At(next) = after_loop(p, end, dst) else {
+    let After::At(past) = after_loop(p, end, dst) else {
         return Look::Refuse(24);
     };
     if allowed.loops <= opens.loops {
@@ -104,15 +104,15 @@ fn look_loop(allowed: Allowed, opens: Opens, weight: u32, p: u32, end: u32, dst:
         opens: inner,
         weight: weight * 256,
         from: WordAddress(p + 1),
-        to: WordAddress(next),
+        to: WordAddress(past),
     };
-    Look::One(part, WordAddress(next))
+    Look::One(part, WordAddress(past))
 }
 
 // `count` is the number of words.
 fn look_call(
     allowed: Allowed,
-    opens: Opens,
+    caller: Opens,
     weight: u32,
     p: u32,
     count: u32,
@@ -120,7 +120,7 @@ fn look_call(
     num: u32,
 ) -> Look
     requires { ⌜ p < count ⌝ }
-    ensures { λ r. ⌜ r ≡ lookCall (rulesOf allowed) opens weight p count dst num ⌝ }
+    ensures { λ r. ⌜ r ≡ lookCall (rulesOf allowed) caller weight p count dst num ⌝ }
 {
     let end = dst as u64 + num as u64;
     if num < 1 {
@@ -129,13 +129,13 @@ fn look_call(
     if (count as u64) < end {
         return Look::Refuse(24);
     }
-    if allowed.calls <= opens.calls {
+    if allowed.calls <= caller.calls {
         return Look::Refuse(25);
     }
     let inner = Opens {
-        calls: opens.calls + 1,
-        ifs: opens.ifs,
-        loops: opens.loops,
+        calls: caller.calls + 1,
+        ifs: caller.ifs,
+        loops: caller.loops,
         looped: false,
     };
     let part = Part {

@@ -28,14 +28,14 @@ unfolding lookLoop
 returns-2 c =
     let n = c .before .before .before .before in
     let k = n .before .before in
-    rw (at-of (bounds (k .before)) {n = after (k .before)} (sym (k .after-loop .ensures) ∙ n .next .given .1) .0, le-leb _ _ (c .if1 .taken))
+    rw (at-of (bounds (k .before)) {n = after (k .before)} (sym (k .after-loop .ensures) ∙ n .past .given .1) .0, le-leb _ _ (c .if1 .taken))
 
 returns-3 : tie.Need-returns-3
 unfolding lookLoop
 returns-3 c =
     let n = c .before .before .before .before .before in
     let k = n .before .before in
-    let (b, e) = at-of (bounds (k .before)) {n = after (k .before)} (sym (k .after-loop .ensures) ∙ n .next .given .1) in
+    let (b, e) = at-of (bounds (k .before)) {n = after (k .before)} (sym (k .after-loop .ensures) ∙ n .past .given .1) in
     rw (b, lt-leb _ _ (c .before .if1 .left), e)
 
 pub look-loop-spec : {M : Type 1} → statement M
