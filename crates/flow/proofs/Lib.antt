@@ -1,3 +1,4 @@
+pub mod Answered
 pub mod Depth
 pub mod Looks
 pub mod Machine

@@ -66,9 +66,10 @@ module _ (C : Code) (R : Rules) (g : ℕ → ℕ) (pos : (p : ℕ) → 1 ≤ g p
       split (eqb p E) _ _ most (λ y. settled u most s q (omega arith)) (λ y. fit r (partR l q s h) (eqb-false p E y) b)
   settled u most {p} {E} (bodyR {n = zero} l o j q s h) r b =
       split (eqb p E) _ _ most (λ y. settled u most s q (omega arith)) (λ y. fit r (bodyR l o j q s h) (eqb-false p E y) b)
-  settled u most {p} {E} (bodyR {n = suc n} {k = k} {m = m} {j = w} l o j q s h) r b =
+  settled u most {p} {E} (bodyR {s = f} {n = suc n} {k = k} {m = m} {j = w} l o j q s h) r b =
       split (eqb p E) _ _ most
-      (λ y. fit {m = n * w + (k + m)} j (bodyR {n = n} {a = n * w + (k + m)} {j = w} l o j q s (omega arith)) (omega arith) (omega arith))
+      (λ y. split (eqb f E) _ _ most (λ z. absurd (omega (arith, eqb-true f E z)))
+      (λ z. fit {m = n * w + (k + m)} j (bodyR {n = n} {a = n * w + (k + m)} {j = w} l o j q s (omega arith)) (omega arith) (omega arith)))
       (λ y. fit r (bodyR l o j q s h) (eqb-false p E y) b)
   settled u most {p} {E} (calledR l q s h) r b =
       split (eqb p E) _ _ most (λ y. settled u most s q (omega arith)) (λ y. fit r (calledR l q s h) (eqb-false p E y) b)

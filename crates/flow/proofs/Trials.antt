@@ -4,7 +4,7 @@ use mathlib.Core.Bool.{Bool, true, false}
 use mathlib.Core.List.{List, [], _∷_, map}
 use mathlib.Core.List.{_++_ as append}
 use Prim.Native.Nat.{ℕ}
-use lib.ListN.{getD, replicate}
+use lib.ListN.{length, getD, replicate}
 use Rattle.answer.specs.Answers.{Answer, given, refused}
 use Rattle.instruction.specs.Control.{controlOf}
 use Rattle.instruction.specs.Operations.{operations, formatOf}
@@ -12,7 +12,7 @@ use Rattle.instruction.specs.Words.{decodeOf}
 use Rattle.flow.specs.Flow.{codeOf, Measured, flowOf}
 use Rattle.flow.specs.Own.{ownFrom, ownWords}
 use Rattle.flow.specs.Rules.{fullRules}
-use Rattle.flow.specs.Stepping.{Settings, State, start, Run, done, failed, unfinished, arrive, break, execute, step, run}
+use Rattle.flow.specs.Stepping.{Settings, main, State, start, Run, done, failed, unfinished, arrive, break, execute, step, run}
 use Rattle.flow.specs.Visits.{faultAt, parts, visit, region, traceTo, spare, size, trace, mainTrace, flowFault}
 
 -- whether EMIT is allowed, the words, main, endmain, and the answer
@@ -164,3 +164,14 @@ settings w = record { bools = λ b. getD (w .bools) b false; ints = λ r. getD (
 walked : map (λ w. fetches (run (codeOf (w .words) 1) (settings w) 64 (start (w .main) (w .endmain)))) walks ≡ map (λ w. w .fetched) walks
 unfolding walks walk settings fetches run step execute break arrive controlOf decodeOf formatOf operations
 walked = refl
+
+-- P2 with x = 255: as many steps as its total
+p2-whole : length (fetches (run (codeOf (0xa4000800 ∷ 0x84000000 ∷ 0x84000000 ∷ 0x88000000 ∷ []) 1) (record { bools = λ b. false; ints = λ r. 255; truths = [] }) 514 (start 0 4))) ≡ 514
+unfolding fetches run step execute break arrive controlOf decodeOf formatOf operations
+p2-whole = refl
+
+-- a LOOP with an empty body is over at once, in every turn: the BREAK after it has no LOOP open
+empty-loop : run (codeOf (0xa4000000 ∷ 0x80000000 ∷ 0x88000000 ∷ []) 1) (record { bools = λ b. false; ints = λ r. 1; truths = [] }) 9 (start 0 3)
+    ≡ failed (record { word = 0; opens = main 3 ∷ []; read = 0 } ∷ record { word = 1; opens = main 3 ∷ []; read = 0 } ∷ [])
+unfolding run step execute break arrive controlOf decodeOf formatOf operations
+empty-loop = refl

@@ -44,7 +44,7 @@ abbrev pub flowed : Flow → Answer Measured
 flowed (Passed total words) = given (record { total = total; words = words })
 flowed (Refused number word) = refused number word
 
--- what the flow check relies on and no caller has to see to, with document 01's numbers, at 0. 7: words 0 or over 512. 15: type not 0 or 1. 16: not main < endmain ≤ words
+-- what the flow check relies on and no caller has to see to, with document 01's numbers, at 0. 7, of the words alone: 0 or over 512. 15: type not 0 or 1. 16: not main < endmain ≤ words
 abbrev pub entryFault : List ℕ → ℕ → ℕ → ℕ → Fault
 entryFault ws type main endmain =
     orElse (faultIf (eqb (length ws) 0 || ltb 512 (length ws)) 7 0)

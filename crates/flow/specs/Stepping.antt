@@ -39,13 +39,16 @@ pub data Next : Type 0 where
   stuck : Next
   goes : State → Next
 
--- arriving at p: 'Only the innermost open region's end counts; when it closes, the next is looked at'. A LOOP with turns left begins again
+-- arriving at p: 'Only the innermost open region's end counts; when it closes, the next is looked at'. A LOOP with turns left begins again; an empty body closes at once, in every turn
 unfoldable pub arrive : ℕ → List Open → ℕ → State
 arrive n [] p = state p [] n
 arrive n (main e ∷ os) p = pick (eqb p e) (state p [] n) (state p (main e ∷ os) n)
 arrive n (part e q ∷ os) p = let closed = arrive n os q in pick (eqb p e) closed (state p (part e q ∷ os) n)
 arrive n (body e s zero ∷ os) p = let closed = arrive n os e in pick (eqb p e) closed (state p (body e s zero ∷ os) n)
-arrive n (body e s (suc k) ∷ os) p = pick (eqb p e) (state s (body e s k ∷ os) n) (state p (body e s (suc k) ∷ os) n)
+arrive n (body e s (suc k) ∷ os) p =
+    let closed = arrive n os e in
+    let again = pick (eqb s e) closed (state s (body e s k ∷ os) n) in
+    pick (eqb p e) again (state p (body e s (suc k) ∷ os) n)
 arrive n (called e q ∷ os) p = let closed = arrive n os q in pick (eqb p e) closed (state p (called e q ∷ os) n)
 
 -- 'BREAK closes what is open up to and including the innermost LOOP and goes on after it'
@@ -95,7 +98,7 @@ step C v s = pick (someOpen (s .opens) && ltb (s .word) (C .words)) (execute v (
 abbrev pub start : ℕ → ℕ → State
 start m e = state m (main e ∷ []) 0
 
--- a run of so many steps at most: the states at its fetches in order, and how it went on
+-- a run of so many steps at most: its states in order, and how it went on. The last state of a failed run has no next step, and is no fetch where it lies outside
 pub data Run : Type 0 where
   done : List State → Run
   failed : List State → Run

@@ -18,7 +18,7 @@ use binary::WordAddress;
 use instruction::Control;
 use instruction::control_of;
 
-// The total and the number of distinct words visited, or the first fault's number and word.
+// The total and the number of distinct words visited, or a fault's number and word; 7, 15 and 16 have no word, and 0 as their place.
 pub enum Flow {
     Passed { total: u32, words: u32 },
     Refused { number: u32, word: u32 },
@@ -103,7 +103,7 @@ fn measure(words: &[u32], emits: bool, main: u32, endmain: u32) -> Flow
     }
 }
 
-// The flow check of main, in words of a shader type. What it relies on is refused first, by document 01's numbers.
+// The flow check of main, in words of a shader type: 22 to 28, and of the rest 7, 15 and 16 as far as it relies on them. Words that 9 to 12 refuse may pass.
 pub fn flow_of(words: &[u32], shader_type: u8, main: u32, endmain: u32) -> Flow
     ensures { λ r. ⌜ flowed r ≡ flowAnswer (now (words .entry)) «shader_type» main endmain ⌝ }
 {

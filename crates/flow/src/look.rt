@@ -164,7 +164,7 @@ fn look_jump(words: &[u32], p: u32, end: u32, dst: u32) -> Look
     }
 }
 
-// A visited word in a region that ends at `end`. An unknown word passes: it is refused by 9, in a test before.
+// A visited word in a region that ends at `end`. An unknown word passes: 9 is a test of the whole library.
 pub(crate) fn look_at(
     words: &[u32],
     allowed: Allowed,
