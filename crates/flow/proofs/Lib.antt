@@ -4,6 +4,7 @@ pub mod Looks
 pub mod Machine
 pub mod Marks
 pub mod OwnSteps
+pub mod Places
 pub mod Region
 pub mod Stops
 pub mod Replay

@@ -41,11 +41,11 @@ module _ (C : Code) (R : Rules) where
   place-here f true k p g e = cc
   place-here f false k p g e = g e
 
-  last-here : (b : Bool) (k p : ℕ) {n q : ℕ} → faultIf b k p ≡ At n q → q ≡ p
+  pub last-here : (b : Bool) (k p : ℕ) {n q : ℕ} → faultIf b k p ≡ At n q → q ≡ p
   last-here true k p e = cc
   last-here false k p e = absurd (let z : _≡_ {A = ℕ} 0 1 = cc in omega arith)
 
-  fault-place : (x : Opens) (p E : ℕ) {n q : ℕ} → faultAt C R x p E ≡ At n q → q ≡ p
+  pub fault-place : (x : Opens) (p E : ℕ) {n q : ℕ} → faultAt C R x p E ≡ At n q → q ≡ p
   unfolding faultAt
   fault-place x p E e =
       let i = C .control p in

@@ -1,0 +1,69 @@
+-- Laws of lists that are filled from their start on. Assumes nothing.
+use mathlib.Core.Path.{_≡_, refl, sym, ap, _∙_}
+use mathlib.Core.List.{List, [], _∷_, _++_, append-assoc}
+use Prim.Native.Nat.{ℕ, zero, suc, _+_, _-_, _≤_, _<_}
+use native.Mathlib.Numerals.{add-one}
+use native.Mathlib.Omega.{arith}
+use lib.ListN.{length, getD, set, take, replicate, List·getD-append}
+use lib.Seq.{set-at, take-at}
+use Rattle.binary.specs.Addresses.{wordAddress, offsetOfWord}
+use Rattle.binary.specs.Bytes.{u32At}
+use Rattle.binary.specs.declared.ByteOffset.{ByteOffset}
+use Rattle.container.specs.declared.placement.Table.{Table}
+use Rattle.verifier.specs.Lists.{listOf, filled}
+use Rattle.verifier.specs.Words.{wordAt}
+
+module _ {A : Type 0} (f : ℕ → A) where
+  pub length-list : (i n : ℕ) → length (listOf f i n) ≡ n
+  unfolding listOf
+  length-list i zero = refl
+  length-list i (suc n) = ap suc (length-list (i + 1) n)
+
+  -- one more at the end
+  list-next : (i n : ℕ) → listOf f i (suc n) ≡ listOf f i n ++ f (i + n) ∷ []
+  unfolding listOf
+  list-next i zero =
+      let z : i + 0 ≡ i = omega arith in
+      rw z
+  list-next i (suc n) =
+      let z : i + 1 + n ≡ i + suc n = omega arith in
+      ap (λ (l : List A). f i ∷ l) (rw z at (list-next (i + 1) n))
+
+  pub list-at : (i n k : ℕ) (d : A) → k < n → getD (listOf f i n) k d ≡ f (i + k)
+  unfolding listOf
+  list-at i zero k d h = absurd (omega arith)
+  list-at i (suc n) zero d h =
+      let z : i + 0 ≡ i = omega arith in
+      rw z
+  list-at i (suc n) (suc k) d h =
+      let z : i + 1 + k ≡ i + suc k = omega arith in
+      rw z at (list-at (i + 1) n k d (omega arith))
+
+  module _ (i m : ℕ) (z : A) where
+    pub filled-none : replicate m z ≡ filled f i m 0 z
+    unfolding listOf
+    filled-none =
+        let e : m - 0 ≡ m = omega arith in
+        rw e
+
+    pub filled-next : (n : ℕ) → n < m → set (filled f i m n z) n (f (i + n)) ≡ filled f i m (n + 1) z
+    filled-next n h =
+        let e : m - n ≡ suc (m - suc n) = omega arith in
+        rw (add-one n, e)
+        (set-at (listOf f i n) z (replicate (m - suc n) z) (f (i + n)) n (length-list i n)
+        ∙ sym (append-assoc (listOf f i n) (f (i + n) ∷ []) (replicate (m - suc n) z))
+        ∙ ap (λ (l : List A). l ++ replicate (m - suc n) z) (sym (list-next i n)))
+
+    pub take-filled : (n : ℕ) → take n (filled f i m n z) ≡ listOf f i n
+    take-filled n = take-at (listOf f i n) (replicate (m - n) z) n (length-list i n)
+
+    pub filled-at : (n k : ℕ) (d : A) → k < n → getD (filled f i m n z) k d ≡ f (i + k)
+    filled-at n k d h = List·getD-append (listOf f i n) (replicate (m - n) z) d k (omega (arith, length-list i n)) ∙ list-at i n k d h
+
+-- one more word of the opcode table
+pub word-next : (file : List ℕ) (t : Table) (p : ℕ) {l : List ℕ} {o : ByteOffset} {w : ℕ} → p < 512
+    → l ≡ filled (wordAt file t) 0 512 p 0 → o ≡ offsetOfWord (wordAddress p) → w ≡ u32At file (t .start .0 + o .0)
+    → set l p w ≡ filled (wordAt file t) 0 512 (p + 1) 0
+word-next file t p h e o r =
+    let z : 0 + p ≡ p = omega arith in
+    rw (e, r, o) (rw z at (filled-next (wordAt file t) 0 512 0 p h))

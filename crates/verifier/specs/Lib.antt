@@ -1,0 +1,6 @@
+pub mod Lists
+pub mod Words
+pub mod Executables
+pub mod Verdict
+pub mod Clean
+pub mod Promise

@@ -1,0 +1,13 @@
+// The whole check of a library in document 01's order, and the reports of its executables.
+mod executables;
+mod verdict;
+mod words;
+
+pub use verdict::Checked;
+pub use verdict::Judged;
+pub use verdict::Library;
+pub use verdict::Report;
+pub use verdict::Reported;
+pub use verdict::check;
+pub use verdict::judge;
+pub use verdict::report_of;

@@ -1,0 +1,119 @@
+// The words of a library: refusals 9 to 12.
+ghost use mathlib.Core.Path.{_≡_};
+ghost use Prim.Native.Nat.{_+_, _*_, _≤_};
+ghost use lib.ListN.{length};
+ghost use Rattle.verifier.specs.Lists.{filled};
+ghost use Rattle.verifier.specs.Words.{wordAt, isUnknown, badOperators, undescribed, badRegister, wordFault, wordsFault};
+use answer::Fault;
+use binary::ByteOffset;
+use binary::WordAddress;
+use binary::offset_of_word;
+use binary::u32_at;
+use container::Table;
+use instruction::CompareOperators;
+use instruction::Control;
+use instruction::DescriptorId;
+use instruction::compare_operators_of;
+use instruction::control_of;
+use instruction::descriptor_of;
+
+// The words of the opcode table, and zeros after them.
+pub(crate) fn words_of(file: &[u8], table: Table) -> [u32; 512]
+    requires { ⌜ (table .count ≤ 512) × (table .start .0 + table .count * 4 ≤ length (now file)) ⌝ }
+    ensures { λ r. ⌜ r ≡ filled (wordAt (now (file .entry)) table) 0 512 (table .count) 0 ⌝ }
+{
+    let start = table.start.0;
+    let mut words = [0u32; 512];
+    for p in 0..table.count {
+        let at = start + offset_of_word(WordAddress(p)).0;
+        let i = p as usize;
+        words[i] = u32_at(file, ByteOffset(at));
+    }
+    words
+}
+
+fn is_unknown(control: Control) -> bool
+    ensures { λ r. ⌜ r ≡ isUnknown control ⌝ }
+{
+    match control {
+        Control::Unknown => true,
+        Control::Plain => false,
+        Control::Emit => false,
+        Control::End => false,
+        Control::Break(_) => false,
+        Control::If(_, _, _) => false,
+        Control::Loop(_, _) => false,
+        Control::Call(_, _, _) => false,
+        Control::Jump(_, _, _) => false,
+    }
+}
+
+fn has_bad_operators(operators: CompareOperators) -> bool
+    ensures { λ r. ⌜ r ≡ badOperators operators ⌝ }
+{
+    match operators {
+        CompareOperators::Compares(x, y) => (5 < x) | (5 < y),
+        CompareOperators::None => false,
+    }
+}
+
+fn is_undescribed(id: DescriptorId, descriptors: u32) -> bool
+    ensures { λ r. ⌜ r ≡ undescribed descriptors id ⌝ }
+{
+    match id {
+        DescriptorId::Id(n) => descriptors <= n,
+        DescriptorId::Unused => false,
+    }
+}
+
+fn has_bad_register(control: Control) -> bool
+    ensures { λ r. ⌜ r ≡ badRegister control ⌝ }
+{
+    match control {
+        Control::Loop(register, _) => 3 < register,
+        Control::Unknown => false,
+        Control::Plain => false,
+        Control::Emit => false,
+        Control::End => false,
+        Control::Break(_) => false,
+        Control::If(_, _, _) => false,
+        Control::Call(_, _, _) => false,
+        Control::Jump(_, _, _) => false,
+    }
+}
+
+// The fault of one word, in a library of so many descriptors.
+fn word_fault(word: u32, descriptors: u32, place: u32) -> Fault
+    ensures { λ r. ⌜ r ≡ wordFault descriptors word place ⌝ }
+{
+    let control = control_of(word);
+    if is_unknown(control) {
+        return Fault::At { number: 9, place };
+    }
+    if has_bad_operators(compare_operators_of(word)) {
+        return Fault::At { number: 10, place };
+    }
+    if is_undescribed(descriptor_of(word), descriptors) {
+        return Fault::At { number: 11, place };
+    }
+    if has_bad_register(control) {
+        return Fault::At { number: 12, place };
+    }
+    Fault::Nothing
+}
+
+// Refusals 9 to 12: words ascending, the first that applies at each.
+pub(crate) fn words_fault(words: &[u32], descriptors: u32) -> Fault
+    requires { ⌜ length (now words) ≤ 512 ⌝ }
+    ensures { λ r. ⌜ r ≡ wordsFault descriptors (now (words .entry)) ⌝ }
+{
+    for p in 0..words.len() {
+        match word_fault(words[p], descriptors, p as u32) {
+            Fault::At { number, place } => {
+                return Fault::At { number, place };
+            }
+            Fault::Nothing => {}
+        }
+    }
+    Fault::Nothing
+}
