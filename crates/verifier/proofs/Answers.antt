@@ -64,10 +64,10 @@ module _ (file : List ℕ) where
         by (At n q) g k r = absurd (let z : _≡_ {A = ℕ} 0 1 = cc in omega arith)
         by Nothing g k r = record { none = g; same = cc; reports = r }
 
-    report-at : (i : ℕ) → i < countOf file → getD (j .reports) i noReport ≡ reportOf file p i
-    report-at i k =
+    report-at : (i : ℕ) (d : Report) → i < countOf file → getD (j .reports) i d ≡ reportOf file p i
+    report-at i d k =
         let z : 0 + i ≡ i = omega arith in
-        ap (λ x. getD x i noReport) (accepts .reports) ∙ (rw z at (filled-at (reportOf file p) 0 16 noReport (countOf file) i noReport k))
+        ap (λ x. getD x i d) (accepts .reports) ∙ (rw z at (filled-at (reportOf file p) 0 16 noReport (countOf file) i d k))
 
   module _ {j : Judged} (e : j ≡ whole) where
     answers : judgedAs j ≡ judgeOf file
@@ -83,7 +83,7 @@ module _ (file : List ℕ) where
     promises l h i k =
         let a = accepts answers l h in
         let m : i < countOf file = rw (ap (λ x. x .executables) (a .same)) at k in
-        rw (report-at answers l h i m) (promised file (a .none) i m)
+        rw (report-at answers l h i noReport m) (promised file (a .none) i m)
 
     pub told : (judgedAs j ≡ judgeOf file) × PromisesAll file j
     told = (answers, promises)
@@ -170,12 +170,13 @@ module _ (file : List ℕ) where
           let n : l .executables ≡ countOf file = ap (λ y. y .executables) (x .same) in
           omega (arith, clean file (x .none) .library .no4)
 
-      pub report-given : PromisesAll file j → index < l .executables → (given (getD (j .reports) index noReport) ≡ reportAnswer file index) × Promises file index (reported.Given (getD (j .reports) index noReport))
+      pub report-given : (d : Report) → index < l .executables → (given (getD (j .reports) index d) ≡ reportAnswer file index) × Promises file index (reported.Given (getD (j .reports) index d))
       unfolding reportAnswer
-      report-given promise k =
+      report-given d k =
           let x = accepts a l h in
           let n : l .executables ≡ countOf file = ap (λ y. y .executables) (x .same) in
-          let q : l .program ≡ p = ap (λ y. y .program) (x .same) in (
-            rw (checks (ap checkedAs h), lt-ltb index (l .executables) k, q, report-at a l h index (omega arith)),
-            λ t g. let same : getD (j .reports) index noReport ≡ t = cc in rw same at (promise l h index k),
+          let q : l .program ≡ p = ap (λ y. y .program) (x .same) in
+          let r = report-at a l h index d (omega arith) in (
+            rw (checks (ap checkedAs h), lt-ltb index (l .executables) k, q, r),
+            λ t g. let same : reportOf file p index ≡ t = cc in rw same at (promised file (x .none) index (omega arith)),
           )

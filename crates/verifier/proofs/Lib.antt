@@ -5,3 +5,4 @@ pub mod Stages
 pub mod Clean
 pub mod Promise
 pub mod Answers
+pub mod Trials

@@ -87,16 +87,20 @@ fn word_fault(word: u32, descriptors: u32, place: u32) -> Fault
     ensures { λ r. ⌜ r ≡ wordFault descriptors word place ⌝ }
 {
     let control = control_of(word);
-    if is_unknown(control) {
+    let unknown = is_unknown(control);
+    let operators = has_bad_operators(compare_operators_of(word));
+    let undescribed = is_undescribed(descriptor_of(word), descriptors);
+    let register = has_bad_register(control);
+    if unknown {
         return Fault::At { number: 9, place };
     }
-    if has_bad_operators(compare_operators_of(word)) {
+    if operators {
         return Fault::At { number: 10, place };
     }
-    if is_undescribed(descriptor_of(word), descriptors) {
+    if undescribed {
         return Fault::At { number: 11, place };
     }
-    if has_bad_register(control) {
+    if register {
         return Fault::At { number: 12, place };
     }
     Fault::Nothing

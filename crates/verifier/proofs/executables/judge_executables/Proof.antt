@@ -12,13 +12,11 @@ use Rattle.answer.specs.declared.Fault.the-variants.{Nothing, At}
 use Rattle.answer.proofs.Laws.{stop, all-left, hit, miss, over}
 use Rattle.tables.specs.Constants.{constantFault}
 use Rattle.tables.specs.Entries.{labelFault, outputFault, uniformFault}
-use Rattle.verifier.specs.Executables.{constantAt, labelAt, outputAt, uniformAt, noReport, reportOf}
+use Rattle.verifier.specs.Executables.{placeOf, constantAt, labelAt, outputAt, uniformAt, noReport, reportOf}
 use Rattle.verifier.specs.Lists.{filled}
 use Rattle.verifier.proofs.Stages.{All, From, FromFlow, FromUniforms, FromOutputs, FromLabels, begin, at-head, past-head, seen, seen-names, constants-fit, labels-fit, outputs-fit, uniforms-fit, word-inside, flow-stops, flow-goes-on, report-added, none-yet, Left, left-by, told-refused, told-accepted}
 use Rattle.verifier.proofs.executables.judge_executables.Statement.{statement}
 use Rattle.verifier.proofs.executables.judge_executables.Tie as tie
-use Rattle.verifier.proofs.executables.judge_executables.Reads as reads
-use Rattle.verifier.proofs.executables.judge_executables.Lts as lts
 
 abbrev Inv-loop : tie.InvT-loop
 Inv-loop file library words first end count found₀ reports index place e names entry₀ entry-end found entry =
@@ -96,7 +94,7 @@ loop-again c =
       search needs,
       c .enum-told4 .given .1,
       miss _ _ _ _ _ (l .loop .inv .2) (c .before .before .before .before .loop-test .taken)
-          (seen (λ s. constantFault s (k .before .before .before .before .executables .index * 65536 + l .loop .entry)) (c .before .before .before .entry-of .ensures) (c .before .before .constant-fault .ensures) ∙ c .enum-told4 .given .1),
+          (seen (λ s. constantFault s (placeOf (k .before .before .before .before .executables .index) + l .loop .entry)) (c .before .before .before .entry-of .ensures) (c .before .before .constant-fault .ensures) ∙ c .enum-told4 .given .1),
     )
 
 loop2-holds : tie.Need-loop2-holds Inv-loop μ-loop Inv-loop2 μ-loop2 Inv-loop3 μ-loop3 Inv-loop4 μ-loop4 Inv-executables μ-executables
@@ -126,7 +124,7 @@ loop2-again c =
       search needs,
       c .enum-told6 .given .1,
       miss _ _ _ _ _ (l .loop2 .inv .2) (c .before .before .before .before .loop2-test .taken)
-          (seen-names (λ n s. labelFault s (k .before .before .before .before .before .before .before .before .args .library .program .words .count) n (k .before .before .before .before .executables .index * 65536 + l .loop2 .entry)) (c .before .before .before .before .before .before .before .before .names-end-of .ensures) (c .before .before .before .entry-of2 .ensures) (c .before .before .label-fault .ensures) ∙ c .enum-told6 .given .1),
+          (seen-names (λ n s. labelFault s (k .before .before .before .before .before .before .before .before .args .library .program .words .count) n (placeOf (k .before .before .before .before .executables .index) + l .loop2 .entry)) (c .before .before .before .before .before .before .before .before .names-end-of .ensures) (c .before .before .before .entry-of2 .ensures) (c .before .before .label-fault .ensures) ∙ c .enum-told6 .given .1),
     )
 
 loop3-holds : tie.Need-loop3-holds Inv-loop μ-loop Inv-loop2 μ-loop2 Inv-loop3 μ-loop3 Inv-loop4 μ-loop4 Inv-executables μ-executables
@@ -156,7 +154,7 @@ loop3-again c =
       search needs,
       c .enum-told8 .given .1,
       miss _ _ _ _ _ (l .loop3 .inv .2) (c .before .before .before .before .loop3-test .taken)
-          (seen (λ s. outputFault s (k .before .before .before .before .executables .index * 65536 + l .loop3 .entry)) (c .before .before .before .entry-of3 .ensures) (c .before .before .output-fault .ensures) ∙ c .enum-told8 .given .1),
+          (seen (λ s. outputFault s (placeOf (k .before .before .before .before .executables .index) + l .loop3 .entry)) (c .before .before .before .entry-of3 .ensures) (c .before .before .output-fault .ensures) ∙ c .enum-told8 .given .1),
     )
 
 loop4-holds : tie.Need-loop4-holds Inv-loop μ-loop Inv-loop2 μ-loop2 Inv-loop3 μ-loop3 Inv-loop4 μ-loop4 Inv-executables μ-executables
@@ -186,7 +184,7 @@ loop4-again c =
       search needs,
       c .enum-told10 .given .1,
       miss _ _ _ _ _ (l .loop4 .inv .2) (c .before .before .before .before .loop4-test .taken)
-          (seen-names (λ n s. uniformFault s n (k .before .before .before .before .executables .index * 65536 + l .loop4 .entry)) (c .before .before .before .before .before .before .before .before .before .before .before .before .names-end-of .ensures) (c .before .before .before .entry-of4 .ensures) (c .before .before .uniform-fault .ensures) ∙ c .enum-told10 .given .1),
+          (seen-names (λ n s. uniformFault s n (placeOf (k .before .before .before .before .executables .index) + l .loop4 .entry)) (c .before .before .before .before .before .before .before .before .before .before .before .before .names-end-of .ensures) (c .before .before .before .entry-of4 .ensures) (c .before .before .uniform-fault .ensures) ∙ c .enum-told10 .given .1),
     )
 
 add-t43 : tie.Need-add-t43 Inv-loop μ-loop Inv-loop2 μ-loop2 Inv-loop3 μ-loop3 Inv-loop4 μ-loop4 Inv-executables μ-executables
@@ -228,13 +226,13 @@ at-left c =
     (⊎-elim
     (λ v. left-by (v .4) (v .3 .given .1) (stop _ _ (at-head _ _ _ _ _ (x .inv .3) (v .0 .taken)) (sym (v .1 .ensures) ∙ v .3 .given .1)))
     (⊎-elim
-    (λ v. left-by (v .12) (v .11 .given .1) (hit _ _ _ _ _ (v .6 .inv .2) (v .7 .taken) (seen (λ s. constantFault s (c .before .executables .index * 65536 + v .6 .entry)) (v .8 .ensures) (v .9 .ensures) ∙ v .11 .given .1)))
+    (λ v. left-by (v .12) (v .11 .given .1) (hit _ _ _ _ _ (v .6 .inv .2) (v .7 .taken) (seen (λ s. constantFault s (placeOf (c .before .executables .index) + v .6 .entry)) (v .8 .ensures) (v .9 .ensures) ∙ v .11 .given .1)))
     (⊎-elim
-    (λ v. left-by (v .14) (v .13 .given .1) (hit _ _ _ _ _ (v .8 .inv .2) (v .9 .taken) (seen-names (λ n s. labelFault s (c .before .before .before .before .before .args .library .program .words .count) n (c .before .executables .index * 65536 + v .8 .entry)) (v .5 .ensures) (v .10 .ensures) (v .11 .ensures) ∙ v .13 .given .1)))
+    (λ v. left-by (v .14) (v .13 .given .1) (hit _ _ _ _ _ (v .8 .inv .2) (v .9 .taken) (seen-names (λ n s. labelFault s (c .before .before .before .before .before .args .library .program .words .count) n (placeOf (c .before .executables .index) + v .8 .entry)) (v .5 .ensures) (v .10 .ensures) (v .11 .ensures) ∙ v .13 .given .1)))
     (⊎-elim
-    (λ v. left-by (v .16) (v .15 .given .1) (hit _ _ _ _ _ (v .10 .inv .2) (v .11 .taken) (seen (λ s. outputFault s (c .before .executables .index * 65536 + v .10 .entry)) (v .12 .ensures) (v .13 .ensures) ∙ v .15 .given .1)))
+    (λ v. left-by (v .16) (v .15 .given .1) (hit _ _ _ _ _ (v .10 .inv .2) (v .11 .taken) (seen (λ s. outputFault s (placeOf (c .before .executables .index) + v .10 .entry)) (v .12 .ensures) (v .13 .ensures) ∙ v .15 .given .1)))
     (⊎-elim
-    (λ v. left-by (v .18) (v .17 .given .1) (hit _ _ _ _ _ (v .12 .inv .2) (v .13 .taken) (seen-names (λ n s. uniformFault s n (c .before .executables .index * 65536 + v .12 .entry)) (v .5 .ensures) (v .14 .ensures) (v .15 .ensures) ∙ v .17 .given .1)))
+    (λ v. left-by (v .18) (v .17 .given .1) (hit _ _ _ _ _ (v .12 .inv .2) (v .13 .taken) (seen-names (λ n s. uniformFault s n (placeOf (c .before .executables .index) + v .12 .entry)) (v .5 .ensures) (v .14 .ensures) (v .15 .ensures) ∙ v .17 .given .1)))
     (λ v. left-by (v .18) refl
     (flow-stops (c .before .before .before .before .before .pre .0) (x .index) (v .4 .ensures) (sym (v .1 .ensures) ∙ v .3 .given .1) (v .14 .result) (v .14 .ensures) _ _ (over _ _ _ _ _ (v .12 .inv .2) (v .13 .left)) (v .16 .given .1))))))))
     (c .executables-test .came)

@@ -47,7 +47,7 @@ judge-executables-requires c κs =
     let k = j .before .before .before .before .before .before in
     let a = sym (k .before .before .library-fault .ensures) ∙ k .enum-told .given .1 in
     let file = k .before .before .before .before .args .file .now in
-    (loaded file a (j .before .before .before .before .before .program-of .ensures) (j .before .before .words-of .ensures) _, few-executables file a (j .before .before .before .before .executable-count .ensures))
+    (loaded file a (j .before .before .before .before .before .program-of .ensures) (j .before .before .words-of .ensures) _, omega (arith, few-executables file a (j .before .before .before .before .executable-count .ensures)))
 
 returns-3 : tie.Need-returns-3
 returns-3 c =

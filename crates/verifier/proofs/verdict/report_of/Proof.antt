@@ -20,7 +20,7 @@ returns-2 : tie.Need-returns-2
 returns-2 c =
     let k = c .before .before .before .before .before .before .before in
     let s = k .before .before in
-    report-given (s .args .file .now) (k .judge .result) (k .judge .ensures .0) (s .args .executable) (c .before .before .before .before .before .verdict2 .given .1) (k .judge .ensures .1) (c .before .before .if1 .taken)
+    report-given (s .args .file .now) (k .judge .result) (k .judge .ensures .0) (s .args .executable) (c .before .before .before .before .before .verdict2 .given .1) _ (c .before .before .if1 .taken)
 
 returns-3 : tie.Need-returns-3
 returns-3 c =
