@@ -16,7 +16,7 @@ endOf r = r .start .0 + r .size
 
 -- ends inside a file of so many bytes. An empty range is asked too: whoever has nothing to test for an empty table does not ask
 abbrev pub inside : Range → ℕ → Bool
-inside r length = leb (endOf r) length
+inside r bytes = leb (endOf r) bytes
 
 -- the byte at an offset is in the range
 abbrev pub Holds : Range → ℕ → Type 0

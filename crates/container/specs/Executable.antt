@@ -45,8 +45,8 @@ sectionAt base = record { start = byteOffset base; size = 64 }
 
 -- 13: DVLE offset unaligned, or its 64 bytes outside or in the opcode table in part
 unfoldable pub misplacedSection : ℕ → Table → ℕ → Bool
-misplacedSection base words length =
-    not (eqb (base % 4) 0) || (not (inside (sectionAt base) length) || wordsMeet words (sectionAt base))
+misplacedSection base words bytes =
+    not (eqb (base % 4) 0) || (not (inside (sectionAt base) bytes) || wordsMeet words (sectionAt base))
 
 -- 16: not main < endmain ≤ words
 unfoldable pub badEntry : ℕ → ℕ → ℕ → Bool
@@ -54,10 +54,10 @@ badEntry main endmain words = not (ltb main endmain && leb endmain words)
 
 -- 17: a DVLE table unaligned, outside; the symbol table needs no alignment ..
 unfoldable pub misplacedTables : ℕ → Executable → Bool
-misplacedTables length e =
-    misplaced 4 20 length (e .constants)
-    || (misplaced 4 16 length (e .labels)
-    || (misplaced 4 8 length (e .outputs) || (misplaced 4 8 length (e .uniforms) || misplaced 1 1 length (e .symbols))))
+misplacedTables bytes e =
+    misplaced 4 20 bytes (e .constants)
+    || (misplaced 4 16 bytes (e .labels)
+    || (misplaced 4 8 bytes (e .outputs) || (misplaced 4 8 bytes (e .uniforms) || misplaced 1 1 bytes (e .symbols))))
 
 -- .. or overlapping the opcode table
 unfoldable pub overlappedByTables : Table → Executable → Bool

@@ -25,8 +25,8 @@ tableRange size t = rangeOf (t .start) (t .count) size
 
 -- 'the others start at multiples of 4 from their section start': unaligned, counted from there, or outside the file; never with count 0, which 'has no offset to test'
 unfoldable pub misplaced : ℕ → ℕ → ℕ → Table → Bool
-misplaced align size length t =
-    not (eqb (t .count) 0) && (not (eqb (t .offset % align) 0) || not (inside (tableRange size t) length))
+misplaced align size bytes t =
+    not (eqb (t .count) 0) && (not (eqb (t .offset % align) 0) || not (inside (tableRange size t) bytes))
 
 -- the opcode table, whose entries have 4 bytes, overlapping a range of bytes or another table; an empty table overlaps nothing
 unfoldable pub wordsMeet : Table → Range → Bool

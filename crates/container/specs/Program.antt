@@ -55,9 +55,9 @@ badSizes most p = eqb (p .words .count) 0 || (ltb (most .words) (p .words .count
 
 -- 8: a DVLP table unaligned or outside the file; the symbol table needs no alignment ..
 unfoldable pub misplacedTable : ℕ → Program → Bool
-misplacedTable length p =
-    misplaced 4 4 length (p .words)
-    || (misplaced 4 8 length (p .descriptors) || (misplaced 4 8 length (p .lines) || misplaced 1 1 length (p .«file_names»)))
+misplacedTable bytes p =
+    misplaced 4 4 bytes (p .words)
+    || (misplaced 4 8 bytes (p .descriptors) || (misplaced 4 8 bytes (p .lines) || misplaced 1 1 bytes (p .«file_names»)))
 
 -- .. or the opcode table overlapping the header and DVLP, which are the file's first bytes, or another DVLP table
 unfoldable pub overlappedWords : ℕ → Program → Bool

@@ -1,4 +1,5 @@
 // Tries `verifier` on the libraries of standard input, before each its length in four bytes with the lowest first: the verdict, and a line for each report.
+// Its stdin holds the outside libraries in the order of their names and one that is cut short on purpose; its stdout was made from their reports.
 mod input;
 mod lines;
 

@@ -14,10 +14,11 @@ use Rattle.answer.specs.declared.Fault.the-variants.{Nothing, At}
 use Rattle.container.specs.Program.{countOf, programOf, libraryFault}
 use Rattle.container.specs.declared.programs.Program.{Program}
 use Rattle.verifier.specs.Clean.{Clean}
-use Rattle.verifier.specs.Executables.{oneFault, noReport, reportOf}
+use Rattle.verifier.specs.Executables.{oneExecutable, noReport, reportOf}
+use Rattle.verifier.specs.Inside.{refusedBy, judgedBy, Loaded}
 use Rattle.verifier.specs.Lists.{filled}
 use Rattle.verifier.specs.Promise.{AcceptsClean, Promised, Promises, PromisesAll}
-use Rattle.verifier.specs.Verdict.{fullLimits, libraryOf, wholeFault, answerBy, checkOf, reportsBy, judgeOf, reportIn, reportAnswer, checkedAs, judgedAs, reportedAs, refusedBy, judgedBy, Loaded}
+use Rattle.verifier.specs.Verdict.{fullLimits, libraryOf, wholeFault, answerBy, checkOf, reportsBy, judgeOf, reportIn, reportAnswer, checkedAs, judgedAs, reportedAs}
 use Rattle.verifier.specs.Words.{wordAt, wordsOf, wordsFault}
 use Rattle.verifier.specs.declared.verdict.Checked.{Checked}
 use Rattle.verifier.specs.declared.verdict.Checked.the-variants as checked
@@ -41,7 +42,7 @@ module _ (file : List ℕ) where
   whole-library e = rw e
 
   whole-words : {f : Fault} → libraryFault fullLimits file ≡ Nothing → wordsFault (p .descriptors .count) (wordsOf file (p .words)) ≡ f
-      → wholeFault file ≡ orElse f (firstIn (oneFault file p) 0 (countOf file))
+      → wholeFault file ≡ orElse f (firstIn (oneExecutable file p) 0 (countOf file))
   unfolding wholeFault
   whole-words a b = rw (a, b)
 
@@ -120,7 +121,7 @@ module _ (file : List ℕ) where
       refused-by-words f g e = told (e ∙ rw (whole-words a (words-told f ∙ g)))
 
       pub judged-executables : {r : Fault} {j : Judged} {n : ℕ} → r ≡ wordsFault (q .descriptors .count) (take (q .words .count) all) → r ≡ Nothing → n ≡ countOf file
-          → j ≡ judgedBy (firstIn (oneFault file q) 0 (n - 0)) (record { executables = n; program = q }) (filled (reportOf file q) 0 16 (n - 0) noReport)
+          → j ≡ judgedBy (firstIn (oneExecutable file q) 0 (n - 0)) (record { executables = n; program = q }) (filled (reportOf file q) 0 16 (n - 0) noReport)
           → (judgedAs j ≡ judgeOf file) × PromisesAll file j
       judged-executables f g c e =
           let z : countOf file - 0 ≡ countOf file = omega arith in

@@ -37,7 +37,7 @@ use Rattle.tables.specs.Constants.{entryOf, isBad, convertOf, constantFault}
 use Rattle.tables.specs.Entries.{goodLabel, labelAddress, labelName, labelFault, goodOutput, outputFault, goodUniform, inOneKind, uniformName, uniformStart, uniformEnd, uniformFault}
 use Rattle.tables.specs.Names.{goodName, namesEnd}
 use Rattle.verifier.specs.Clean.{Every, GoodLabel, GoodUniform, CleanLibrary, CleanWord, codeIn, visitsIn, CleanExecutable, Clean}
-use Rattle.verifier.specs.Executables.{placeOf, entryAt, symbolsOf, constantAt, labelAt, outputAt, uniformAt, rulesFor, flowIn, flowAt, oneFault}
+use Rattle.verifier.specs.Executables.{placeOf, entryAt, symbolsOf, constantAt, labelAt, outputAt, uniformAt, rulesFor, flowIn, flowAt, oneExecutable}
 use Rattle.verifier.specs.Verdict.{fullLimits, wholeFault}
 use Rattle.verifier.specs.Words.{wordAt, wordsOf, isUnknown, badOperators, undescribed, badRegister, wordFault, wordsFault}
 use Rattle.verifier.proofs.Lists.{length-list, list-at}
@@ -255,7 +255,7 @@ module _ (file : List ℕ) (p : Program) (index : ℕ) where
   place = placeOf index
 
   abbrev C : Code
-  C = codeIn file p
+  C = codeIn file p 0
 
   abbrev symbols : List ℕ
   symbols = symbolsOf file (e .symbols)
@@ -272,8 +272,8 @@ module _ (file : List ℕ) (p : Program) (index : ℕ) where
     pub uniforms : firstIn (uniformAt file e place) 0 (e .uniforms .count) ≡ Nothing
     pub flow : flowAt place (flowIn (wordsOf file (p .words)) e) ≡ Nothing
 
-  pub tested : oneFault file p index ≡ Nothing → Tested
-  unfolding oneFault
+  pub tested : oneExecutable file p index ≡ Nothing → Tested
+  unfolding oneExecutable
   tested h =
       let (a, h₂) = or-none (executableFault 1 (p .words) file index place) _ h in
       let (b, h₃) = or-none (firstIn (constantAt file e place) 0 (e .constants .count)) _ h₂ in
@@ -282,11 +282,11 @@ module _ (file : List ℕ) (p : Program) (index : ℕ) where
       let (f, g) = or-none (firstIn (uniformAt file e place) 0 (e .uniforms .count)) _ h₅ in
       record { head = a; constants = b; labels = c; outputs = d; uniforms = f; flow = g }
 
-  one-passes : Tested → oneFault file p index ≡ Nothing
-  unfolding oneFault
+  one-passes : Tested → oneExecutable file p index ≡ Nothing
+  unfolding oneExecutable
   one-passes t = rw (t .head, t .constants, t .labels, t .outputs, t .uniforms, t .flow)
 
-  pub clean-executable : oneFault file p index ≡ Nothing → CleanExecutable file p index
+  pub clean-executable : oneExecutable file p index ≡ Nothing → CleanExecutable file p index
   unfolding flowFault
   clean-executable h =
       let t = tested h in
@@ -321,7 +321,7 @@ module _ (file : List ℕ) (p : Program) (index : ℕ) where
       let none = first-passes C (rulesFor e) 0 vs (joined C (rulesFor e) vs (c .no22) (c .no23) (c .no24) (c .no25) (c .no26)) (omega (arith, c .no27)) in
       rw (none, c .no28 .0, c .no28 .1)
 
-  executable-passes : CleanExecutable file p index → oneFault file p index ≡ Nothing
+  executable-passes : CleanExecutable file p index → oneExecutable file p index ≡ Nothing
   executable-passes c =
       one-passes (record {
         head = head-passes file (p .words) index place (record { section = c .no13; name = c .no14; type = c .no15; main = c .no16 .0; endmain = c .no16 .1; tables = c .no17 });
@@ -339,14 +339,14 @@ module _ (file : List ℕ) where
   pub record Parts : Type 0 where
     pub library : libraryFault fullLimits file ≡ Nothing
     pub words : wordsFault (programOf file .descriptors .count) (wordsOf file (programOf file .words)) ≡ Nothing
-    pub executables : (i : ℕ) → i < countOf file → oneFault file (programOf file) i ≡ Nothing
+    pub executables : (i : ℕ) → i < countOf file → oneExecutable file (programOf file) i ≡ Nothing
 
   pub parts : wholeFault file ≡ Nothing → Parts
   unfolding wholeFault
   parts h =
       let (a, h₂) = or-none (libraryFault fullLimits file) _ h in
       let (b, c) = or-none (wordsFault (programOf file .descriptors .count) (wordsOf file (programOf file .words))) _ h₂ in
-      record { library = a; words = b; executables = each-at (oneFault file (programOf file)) (countOf file) (λ i q. q) c }
+      record { library = a; words = b; executables = each-at (oneExecutable file (programOf file)) (countOf file) (λ i q. q) c }
 
   pub clean : wholeFault file ≡ Nothing → Clean file
   clean h =
@@ -363,5 +363,5 @@ module _ (file : List ℕ) where
       rw (
         library-passes file (c .library),
         words-pass file (programOf file .words) (programOf file .descriptors .count) (c .words),
-        none-of (oneFault file (programOf file)) (countOf file) (λ i q. executable-passes file (programOf file) i q) (c .executables),
+        none-of (oneExecutable file (programOf file)) (countOf file) (λ i q. executable-passes file (programOf file) i q) (c .executables),
       )

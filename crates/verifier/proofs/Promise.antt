@@ -12,13 +12,12 @@ use Rattle.container.specs.declared.executables.Executable.{Executable}
 use Rattle.container.specs.declared.programs.Program.{Program}
 use Rattle.flow.proofs.Answered.{answered-run}
 use Rattle.flow.specs.Flow.{Measured, flowOf}
-use Rattle.flow.specs.Rules.{Code}
 use Rattle.flow.specs.Stepping.{Settings}
 use Rattle.flow.specs.Visits.{total, distinct}
 use Rattle.flow.specs.WholeRun.{GoodWord}
-use Rattle.verifier.specs.Clean.{visitsIn, CleanWord}
+use Rattle.verifier.specs.Clean.{codeIn, visitsIn, CleanWord}
 use Rattle.verifier.specs.Executables.{placeOf, rulesFor, flowIn, reportWith, reportOf}
-use Rattle.verifier.specs.Promise.{programIn, Promised}
+use Rattle.verifier.specs.Promise.{Promised}
 use Rattle.verifier.specs.Verdict.{wholeFault}
 use Rattle.verifier.specs.Words.{wordAt, wordsOf}
 use Rattle.verifier.specs.declared.verdict.Report.{Report}
@@ -35,7 +34,7 @@ module _ (file : List ℕ) (none : wholeFault file ≡ Nothing) where
   long : length ws ≡ p .words .count
   long = length-list (wordAt file (p .words)) 0 (p .words .count)
 
-  good : (k : ℕ) → k < length ws → GoodWord (programIn file) k
+  good : (k : ℕ) → k < length ws → GoodWord (codeIn file p (p .descriptors .count)) k
   good k h =
       let m : k < p .words .count = omega (arith, long) in
       let z : 0 + k ≡ k = omega arith in

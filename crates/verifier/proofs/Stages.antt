@@ -22,24 +22,24 @@ use Rattle.flow.specs.declared.entry.Flow.the-variants.{Passed, Refused}
 use Rattle.verifier.specs.Clean.{ExecutableTables}
 use Rattle.verifier.specs.Executables.{rulesFor, noReport, reportWith, reportOf}
 use Rattle.verifier.specs.Lists.{filled}
-use Rattle.verifier.specs.Verdict.{Loaded, refusedBy, judgedBy}
+use Rattle.verifier.specs.Inside.{Loaded, refusedBy, judgedBy}
 use Rattle.verifier.specs.declared.verdict.Checked.the-variants.{Accepted}
 use Rattle.verifier.specs.declared.verdict.Judged.{Judged}
 use Rattle.verifier.specs.declared.verdict.Library.{Library}
 use Rattle.verifier.specs.declared.verdict.Report.{Report}
 use Rattle.verifier.proofs.Lists.{length-list, filled-none, filled-next}
 use Rattle.verifier.proofs.Placing.{clean-library, headed, entry-inside}
-use Rattle.verifier.specs.Executables.{placeOf, constantAt, labelAt, outputAt, uniformAt, flowIn, flowAt, oneFault}
+use Rattle.verifier.specs.Executables.{placeOf, constantAt, labelAt, outputAt, uniformAt, flowIn, flowAt, oneExecutable}
 use Rattle.verifier.specs.Words.{wordsOf}
 
 module _ (file : List ℕ) (p : Program) (first end : ℕ) where
   -- the answer
   abbrev pub All : Fault
-  All = firstIn (oneFault file p) first (end - first)
+  All = firstIn (oneExecutable file p) first (end - first)
 
   -- what is left of it from an executable on
   abbrev pub From : ℕ → Fault
-  From index = orElse (firstIn (oneFault file p) index (end - index)) Nothing
+  From index = orElse (firstIn (oneExecutable file p) index (end - index)) Nothing
 
   pub begin : All ≡ From first
   begin = sym (or-nothing All)
@@ -63,8 +63,8 @@ module _ (file : List ℕ) (p : Program) (first end : ℕ) where
 
   module _ (index : ℕ) (inv : All ≡ From index) (h : index < end) where
     pub at-head : All ≡ orElse (executableFault 1 (p .words) file index (placeOf index)) (FromConstants index (executableOf file index) (placeOf index))
-    unfolding oneFault
-    at-head = inv ∙ here (oneFault file p) index end Nothing h ∙ simp or-assoc
+    unfolding oneExecutable
+    at-head = inv ∙ here (oneExecutable file p) index end Nothing h ∙ simp or-assoc
 
     pub past-head : {e : Executable} → e ≡ executableOf file index → executableFault 1 (p .words) file index (placeOf index) ≡ Nothing → All ≡ FromConstants index e (placeOf index)
     past-head q k = rw q (pass _ _ at-head k)

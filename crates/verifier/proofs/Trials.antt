@@ -9,7 +9,7 @@ use Rattle.answer.specs.Answers.{Answer, given, refused}
 use Rattle.answer.specs.Faults.{firstIn}
 use Rattle.container.specs.Executable.{executableOf, misplacedSection, badEntry, misplacedTables, overlappedByTables, executableFault}
 use Rattle.container.specs.Placement.{misplaced, wordsMeet}
-use Rattle.container.specs.Program.{headerFault, badSizes, misplacedTable, overlappedWords, programFault, libraryFault}
+use Rattle.container.specs.Program.{programOf, headerFault, badSizes, misplacedTable, overlappedWords, programFault, libraryFault}
 use Rattle.flow.specs.Flow.{flowOf}
 use Rattle.flow.specs.Own.{ownFrom, ownWords}
 use Rattle.flow.specs.Stepping.{Settings, State, start, Run, done, failed, unfinished, arrive, break, execute, step, run}
@@ -19,15 +19,16 @@ use Rattle.instruction.specs.Operands.{descriptorOf, operatorsOf}
 use Rattle.instruction.specs.Operations.{operations, formatOf}
 use Rattle.instruction.specs.Words.{decodeOf}
 use Rattle.tables.specs.Constants.{entryOf, constantIf, convertOf, constantFault}
+use Rattle.tables.specs.Entries.{goodLabel, labelFault, goodOutput, outputFault, inOneKind, goodUniform, uniformFault}
 use Rattle.tables.specs.Float24.{goodFloat24, f32Bits}
 use Rattle.tables.specs.Names.{meets0, namesEnd}
 use Rattle.tables.specs.declared.constants.Constant.{Constant}
 use Rattle.tables.specs.declared.constants.Constant.the-variants.{Flag, Bytes, Vector}
 use Rattle.tables.specs.declared.constants.Converted.{Converted}
 use Rattle.tables.specs.declared.constants.Converted.the-variants as converted
-use Rattle.verifier.specs.Executables.{entryAt, oneFault, onesIn, reportOf}
+use Rattle.verifier.specs.Clean.{codeIn}
+use Rattle.verifier.specs.Executables.{entryAt, oneExecutable, onesIn, reportOf}
 use Rattle.verifier.specs.Lists.{listOf}
-use Rattle.verifier.specs.Promise.{programIn}
 use Rattle.verifier.specs.Verdict.{wholeFault, checkOf, judgeOf, reportAnswer}
 use Rattle.verifier.specs.Words.{wordFault, wordsFault}
 use Rattle.verifier.specs.declared.verdict.Report.{Report}
@@ -40,37 +41,59 @@ u32s : List ℕ → List ℕ
 u32s [] = []
 u32s (n ∷ ns) = u32 n ++ u32s ns
 
--- an executable with main 0, three inputs and two outputs: its type, endmain, and how far its offset in the header is off
+-- an executable with main 0: its type, endmain, how far its offset in the header is off, and its masks, the output's in the upper half
 record Exe : Type 0 where
   type : ℕ
   endmain : ℕ
   off : ℕ
+  masks : ℕ
 
 exe : ℕ → ℕ → ℕ → Exe
-exe t e o = record { type = t; endmain = e; off = o }
+exe t e o = record { type = t; endmain = e; off = o; masks = 0x00010001 }
 
--- header, DVLP, a DVLE for each executable, the words, one descriptor, and the constants, which all executables share. Offsets of the DVLEs, and their words, the first from an offset on
+-- tables that all executables share, in words of four bytes
+record Tables : Type 0 where
+  constants : List ℕ
+  labels : List ℕ
+  outputs : List ℕ
+  uniforms : List ℕ
+
+empty : Tables
+empty = record { constants = []; labels = []; outputs = []; uniforms = [] }
+
+-- the offsets of the DVLEs, the first at a byte
 offsets : ℕ → List Exe → List ℕ
 offsets at [] = []
 offsets at (e ∷ es) = (at + e .off) ∷ offsets (at + 64) es
 
-sections : ℕ → ℕ → List Exe → List ℕ
-sections constants count [] = []
-sections constants count (e ∷ es) =
-    (0x454c5644 ∷ (e .type * 65536) ∷ 0 ∷ e .endmain ∷ 0x00030007 ∷ 0 ∷ constants ∷ count ∷ 0 ∷ 0 ∷ 0 ∷ 0 ∷ 0 ∷ 0 ∷ 0 ∷ 0 ∷ [])
-    ++ sections (constants - 64) count es
+-- the DVLEs; the tables start so many bytes after the first of them, and end with four 00 bytes as symbols
+sections : ℕ → Tables → List Exe → List ℕ
+sections at t [] = []
+sections at t (e ∷ es) =
+    let labels = at + length (t .constants) * 4 in
+    let outputs = labels + length (t .labels) * 4 in
+    let uniforms = outputs + length (t .outputs) * 4 in
+    let symbols = uniforms + length (t .uniforms) * 4 in
+    (0x454c5644 ∷ (e .type * 65536) ∷ 0 ∷ e .endmain ∷ e .masks ∷ 0 ∷ at ∷ (length (t .constants) / 5) ∷ labels ∷ (length (t .labels) / 4)
+    ∷ outputs ∷ (length (t .outputs) / 2) ∷ uniforms ∷ (length (t .uniforms) / 2) ∷ symbols ∷ 4 ∷ [])
+    ++ sections (at - 64) t es
 
-libraryOf : List ℕ → List Exe → List ℕ → List ℕ
-libraryOf words exes constants =
+-- a library: header, DVLP, a DVLE for each executable, the words, one descriptor, the tables, the symbols
+fileOf : List ℕ → List Exe → Tables → List ℕ
+fileOf words exes t =
     let w = length words in
     let n = length exes in
     u32s
     ((0x424c5644 ∷ n ∷ offsets (48 + n * 4) exes)
     ++ (0x504c5644 ∷ 0 ∷ (40 + n * 64) ∷ w ∷ (40 + n * 64 + w * 4) ∷ 1 ∷ 0 ∷ 0 ∷ 0 ∷ 0 ∷ [])
-    ++ sections (n * 64 + w * 4 + 8) (length constants / 5) exes
+    ++ sections (n * 64 + w * 4 + 8) t exes
     ++ words
     ++ (0x0d86c36f ∷ 0 ∷ [])
-    ++ constants)
+    ++ t .constants
+    ++ t .labels
+    ++ t .outputs
+    ++ t .uniforms
+    ++ (0 ∷ []))
 
 -- what is expected: the total, and the steps of each run asked for; a refusal's number and place; the first component of constant 0
 data Outcome : Type 0 where
@@ -98,7 +121,7 @@ stepsIn (failed l) = 0
 stepsIn (unfinished l) = 0
 
 steps : List ℕ → Report → Asked → ℕ
-steps file r a = stepsIn (run (programIn file) (record { bools = λ b. a .bool; ints = λ i. a .x; truths = [] }) (r .total) (start (r .main .0) (r .endmain .0)))
+steps file r a = stepsIn (run (codeIn file (programOf file) (programOf file .descriptors .count)) (record { bools = λ b. a .bool; ints = λ i. a .x; truths = [] }) (r .total) (start (r .main .0) (r .endmain .0)))
 
 reported : List ℕ → List Asked → Answer Report → Outcome
 reported file as′ (given r) = measures (r .total) (map (steps file r) as′)
@@ -115,8 +138,11 @@ constantIn file (given r) = firstOf (convertOf (entryOf (entryAt file (executabl
 constantIn file (refused n p) = refuses n p
 
 outcome : Trial → Outcome
-outcome (words ws endmain runs e) = let file = libraryOf ws (exe 0 endmain 0 ∷ []) [] in reported file runs (reportAnswer file 0)
-outcome (float24 w e) = let file = libraryOf (0x88000000 ∷ []) (exe 0 1 0 ∷ []) (0x00000002 ∷ w ∷ 0 ∷ 0 ∷ 0 ∷ []) in constantIn file (reportAnswer file 0)
+outcome (words ws endmain runs e) = let file = fileOf ws (exe 0 endmain 0 ∷ []) empty in reported file runs (reportAnswer file 0)
+outcome (float24 w e) =
+    let vector : Tables = record { constants = 0x00000002 ∷ w ∷ 0 ∷ 0 ∷ 0 ∷ []; labels = []; outputs = []; uniforms = [] } in
+    let file = fileOf (0x88000000 ∷ []) (exe 0 1 0 ∷ []) vector in
+    constantIn file (reportAnswer file 0)
 
 expected : Trial → Outcome
 expected (words ws endmain runs e) = e
@@ -160,53 +186,71 @@ trials =
     []
 
 tried : map outcome trials ≡ map expected trials
-unfolding trials nop end expected outcome constantIn firstOf reported steps stepsIn asked libraryOf exe offsets sections u32s u32 reportAnswer checkOf wholeFault libraryFault headerFault programFault badSizes misplacedTable misplaced overlappedWords wordsMeet wordsFault wordFault oneFault executableFault misplacedSection badEntry misplacedTables overlappedByTables flowOf flowFault mainTrace trace traceTo region visit parts faultAt spare size ownWords ownFrom controlOf decodeOf formatOf operations operatorsOf descriptorOf constantFault convertOf constantIf goodFloat24 f32Bits reportOf firstIn listOf onesIn namesEnd meets0 run step execute break arrive
+unfolding trials nop end expected outcome constantIn firstOf reported steps stepsIn asked fileOf exe empty offsets sections u32s u32 reportAnswer checkOf wholeFault libraryFault headerFault programFault badSizes misplacedTable misplaced overlappedWords wordsMeet wordsFault wordFault oneExecutable executableFault misplacedSection badEntry misplacedTables overlappedByTables flowOf flowFault mainTrace trace traceTo region visit parts faultAt spare size ownWords ownFrom controlOf decodeOf formatOf operations operatorsOf descriptorOf constantFault convertOf constantIf goodFloat24 f32Bits reportOf firstIn listOf onesIn namesEnd meets0 run step execute break arrive
 tried = refl
 
--- The order of the refusals, and 29: the words, the executables, the constants, the executable that is asked for, and the answer's total or refusal
+-- The order of the refusals, and 29: the words, the executables, the tables, the executable that is asked for, and the total or the refusal
 record Order : Type 0 where
   words : List ℕ
   exes : List Exe
-  constants : List ℕ
+  tables : Tables
   asks : ℕ
   answer : Outcome
 
-order : List ℕ → List Exe → List ℕ → ℕ → Outcome → Order
-order ws es cs i a = record { words = ws; exes = es; constants = cs; asks = i; answer = a }
+order : List ℕ → List Exe → Tables → ℕ → Outcome → Order
+order ws es t i a = record { words = ws; exes = es; tables = t; asks = i; answer = a }
 
 good : Exe
 good = exe 0 2 0
 
--- a bool with ID 0, good with value 1
+just : List ℕ → Tables
+just cs = record { constants = cs; labels = []; outputs = []; uniforms = [] }
+
+-- entries: a bool with ID 0; a label, by its address; an output with register 0 and mask 1, by its type; a vertex input, by its last register
 bools : ℕ → List ℕ
-bools value = 0x00000000 ∷ value ∷ 0 ∷ 0 ∷ 0 ∷ []
+bools value = 0 ∷ value ∷ 0 ∷ 0 ∷ 0 ∷ []
+
+label : ℕ → List ℕ
+label address = 0 ∷ address ∷ 0 ∷ 0 ∷ []
+
+output : ℕ → List ℕ
+output kind = kind ∷ 1 ∷ []
+
+uniform : ℕ → List ℕ
+uniform last = 0 ∷ (last * 65536) ∷ []
 
 orders : List Order
 orders =
-    -- 9 to 12 at a word: a CMP with operator 6 and a descriptor ID that is not there
-    order (0xbe000001 ∷ end ∷ []) (good ∷ []) [] 0 (refuses 10 0) ∷
-    order (0xb8000001 ∷ end ∷ []) (good ∷ []) [] 0 (refuses 11 0) ∷
+    -- 9 to 12 at a word: a CMP with operator 6 and a descriptor ID that is not there; with the ID alone
+    order (0xbe000001 ∷ end ∷ []) (good ∷ []) empty 0 (refuses 10 0) ∷
+    order (0xb8000001 ∷ end ∷ []) (good ∷ []) empty 0 (refuses 11 0) ∷
     -- words ascending: LOOP over register 4, then an unknown word
-    order (0xa5000400 ∷ 0x40000000 ∷ []) (good ∷ []) [] 0 (refuses 12 0) ∷
+    order (0xa5000400 ∷ 0x40000000 ∷ []) (good ∷ []) empty 0 (refuses 12 0) ∷
     -- 9 to 12 of every word before 13 to 28 of any executable
-    order (nop ∷ end ∷ 0x40000000 ∷ []) (exe 2 2 0 ∷ []) [] 0 (refuses 9 2) ∷
-    -- 28 of executable 0 before 13 of executable 1, and before 15
-    order (end ∷ nop ∷ []) (good ∷ exe 0 2 1 ∷ []) [] 0 (refuses 28 1) ∷
-    order (end ∷ nop ∷ []) (good ∷ exe 2 2 0 ∷ []) [] 0 (refuses 28 1) ∷
-    -- 13 before 15, 15 before 16, 16 before 18 and 18 before 28, at executable 1
-    order (nop ∷ end ∷ []) (good ∷ exe 2 2 1 ∷ []) [] 0 (refuses 13 65536) ∷
-    order (nop ∷ end ∷ []) (good ∷ exe 2 0 0 ∷ []) [] 0 (refuses 15 65536) ∷
-    order (nop ∷ end ∷ []) (exe 0 3 0 ∷ []) (bools 2) 0 (refuses 16 0) ∷
-    order (nop ∷ end ∷ []) (exe 0 1 0 ∷ []) (bools 1 ++ bools 2) 0 (refuses 18 1) ∷
-    order (nop ∷ end ∷ []) (good ∷ exe 0 1 0 ∷ []) (bools 1) 0 (refuses 28 65536) ∷
+    order (nop ∷ end ∷ 0x40000000 ∷ []) (exe 2 2 0 ∷ []) empty 0 (refuses 9 2) ∷
+    -- 28 of executable 0 before 13 of executable 1, and before its 15
+    order (end ∷ nop ∷ []) (good ∷ exe 0 2 1 ∷ []) empty 0 (refuses 28 1) ∷
+    order (end ∷ nop ∷ []) (good ∷ exe 2 2 0 ∷ []) empty 0 (refuses 28 1) ∷
+    -- 13 before 15, 15 before 16, 16 before 18
+    order (nop ∷ end ∷ []) (good ∷ exe 2 2 1 ∷ []) empty 0 (refuses 13 65536) ∷
+    order (nop ∷ end ∷ []) (good ∷ exe 2 0 0 ∷ []) empty 0 (refuses 15 65536) ∷
+    order (nop ∷ end ∷ []) (exe 0 3 0 ∷ []) (just (bools 2)) 0 (refuses 16 0) ∷
+    -- 18 before 19, 19 before 20, 20 before 21, 21 before 28, at the second entry each
+    order (nop ∷ end ∷ []) (exe 0 1 0 ∷ []) (record { constants = bools 1 ++ bools 2; labels = label 3; outputs = []; uniforms = [] }) 0 (refuses 18 1) ∷
+    order (nop ∷ end ∷ []) (exe 0 1 0 ∷ []) (record { constants = bools 1; labels = label 2 ++ label 3; outputs = output 7; uniforms = [] }) 0 (refuses 19 1) ∷
+    order (nop ∷ end ∷ []) (exe 0 1 0 ∷ []) (record { constants = []; labels = label 2; outputs = output 6 ++ output 7; uniforms = uniform 16 }) 0 (refuses 20 1) ∷
+    order (nop ∷ end ∷ []) (exe 0 1 0 ∷ []) (record { constants = []; labels = []; outputs = output 8; uniforms = uniform 15 ++ uniform 16 }) 0 (refuses 21 1) ∷
+    -- places at executable 1: of an entry, of a word
+    order (nop ∷ end ∷ []) (good ∷ exe 1 1 0 ∷ []) (record { constants = []; labels = []; outputs = []; uniforms = uniform 15 }) 0 (refuses 28 65536) ∷
+    order (nop ∷ end ∷ nop ∷ []) (good ∷ exe 0 3 0 ∷ []) empty 0 (refuses 28 65538) ∷
     -- 29 after the whole check; the last executable that is there
-    order (nop ∷ end ∷ []) (good ∷ exe 0 1 0 ∷ []) [] 7 (refuses 28 65536) ∷
-    order (nop ∷ end ∷ []) (good ∷ good ∷ []) [] 2 (refuses 29 0) ∷
-    order (nop ∷ end ∷ []) (good ∷ good ∷ []) (bools 1) 1 (measures 2 []) ∷
+    order (nop ∷ end ∷ []) (good ∷ exe 0 1 0 ∷ []) empty 7 (refuses 28 65536) ∷
+    order (nop ∷ end ∷ []) (good ∷ good ∷ []) empty 2 (refuses 29 0) ∷
+    order (nop ∷ end ∷ []) (good ∷ good ∷ []) (just (bools 1)) 1 (measures 2 []) ∷
     []
 
-ordered : map (λ o. let file = libraryOf (o .words) (o .exes) (o .constants) in reported file [] (reportAnswer file (o .asks))) orders ≡ map (λ o. o .answer) orders
-unfolding orders order good bools nop end reported steps stepsIn asked libraryOf exe offsets sections u32s u32 reportAnswer checkOf wholeFault libraryFault headerFault programFault badSizes misplacedTable misplaced overlappedWords wordsMeet wordsFault wordFault oneFault executableFault misplacedSection badEntry misplacedTables overlappedByTables flowOf flowFault mainTrace trace traceTo region visit parts faultAt spare size ownWords ownFrom controlOf decodeOf formatOf operations operatorsOf descriptorOf constantFault convertOf constantIf goodFloat24 f32Bits reportOf firstIn listOf onesIn namesEnd meets0 run step execute break arrive
+ordered : map (λ o. let file = fileOf (o .words) (o .exes) (o .tables) in reported file [] (reportAnswer file (o .asks))) orders ≡ map (λ o. o .answer) orders
+unfolding orders order good just bools label output uniform nop end reported steps stepsIn asked fileOf exe empty offsets sections u32s u32 reportAnswer checkOf wholeFault libraryFault headerFault programFault badSizes misplacedTable misplaced overlappedWords wordsMeet wordsFault wordFault oneExecutable executableFault misplacedSection badEntry misplacedTables overlappedByTables flowOf flowFault mainTrace trace traceTo region visit parts faultAt spare size ownWords ownFrom controlOf decodeOf formatOf operations operatorsOf descriptorOf constantFault convertOf constantIf goodFloat24 f32Bits reportOf firstIn listOf onesIn namesEnd meets0 goodLabel labelFault goodOutput outputFault inOneKind goodUniform uniformFault run step execute break arrive
 ordered = refl
 
 -- The numbers of sixteen reports: type, main, endmain, ones in the input mask, ones in the output mask, constants, distinct words visited, total
@@ -216,8 +260,16 @@ numbers r = r .«shader_type» ∷ r .main .0 ∷ r .endmain .0 ∷ r .inputs �
 zeros : List ℕ
 zeros = replicate 8 0
 
--- two executables with two constants each, of five words with two visited twice; then the same, with a fault in executable 1: all are zeros
-judged : map (λ es. map numbers (judgeOf (libraryOf (0x90000c02 ∷ 0x90000c02 ∷ end ∷ nop ∷ nop ∷ []) es (bools 1 ++ bools 0)) .reports)) ((exe 0 3 0 ∷ exe 1 3 0 ∷ []) ∷ (exe 0 3 0 ∷ exe 1 2 0 ∷ []) ∷ [])
-    ≡ ((0 ∷ 0 ∷ 3 ∷ 3 ∷ 2 ∷ 2 ∷ 5 ∷ 7 ∷ []) ∷ (1 ∷ 0 ∷ 3 ∷ 3 ∷ 2 ∷ 2 ∷ 5 ∷ 7 ∷ []) ∷ replicate 14 zeros) ∷ replicate 16 zeros ∷ []
-unfolding zeros numbers bools nop end judgeOf libraryOf exe offsets sections u32s u32 checkOf wholeFault libraryFault headerFault programFault badSizes misplacedTable misplaced overlappedWords wordsMeet wordsFault wordFault oneFault executableFault misplacedSection badEntry misplacedTables overlappedByTables flowOf flowFault mainTrace trace traceTo region visit parts faultAt spare size ownWords ownFrom controlOf decodeOf formatOf operations operatorsOf descriptorOf constantFault convertOf constantIf goodFloat24 f32Bits reportOf firstIn listOf onesIn namesEnd meets0
+numbersOf : List ℕ → List Exe → Tables → List (List ℕ)
+numbersOf ws exes t = map numbers (judgeOf (fileOf ws exes t) .reports)
+
+-- the example of document 01
+example : numbersOf (0x4c000000 ∷ 0x9cc00c00 ∷ 0x02225100 ∷ nop ∷ end ∷ []) (exe 0 5 0 ∷ []) empty ≡ (0 ∷ 0 ∷ 5 ∷ 1 ∷ 1 ∷ 0 ∷ 5 ∷ 5 ∷ []) ∷ replicate 15 zeros
+unfolding numbersOf zeros numbers just bools nop end judgeOf fileOf exe empty offsets sections u32s u32 checkOf wholeFault libraryFault headerFault programFault badSizes misplacedTable misplaced overlappedWords wordsMeet wordsFault wordFault oneExecutable executableFault misplacedSection badEntry misplacedTables overlappedByTables flowOf flowFault mainTrace trace traceTo region visit parts faultAt spare size ownWords ownFrom controlOf decodeOf formatOf operations operatorsOf descriptorOf constantFault convertOf constantIf goodFloat24 f32Bits reportOf firstIn listOf onesIn namesEnd meets0
+example = refl
+
+-- two executables with two constants each, three inputs and two outputs, of five words with two visited twice; then the same with a fault in executable 1: all are zeros
+judged : map (λ e. numbersOf (0x90000c02 ∷ 0x90000c02 ∷ end ∷ nop ∷ nop ∷ []) (record { type = 0; endmain = 3; off = 0; masks = 0x00030007 } ∷ exe 1 e 0 ∷ []) (just (bools 1 ++ bools 0))) (3 ∷ 2 ∷ [])
+    ≡ ((0 ∷ 0 ∷ 3 ∷ 3 ∷ 2 ∷ 2 ∷ 5 ∷ 7 ∷ []) ∷ (1 ∷ 0 ∷ 3 ∷ 1 ∷ 1 ∷ 2 ∷ 5 ∷ 7 ∷ []) ∷ replicate 14 zeros) ∷ replicate 16 zeros ∷ []
+unfolding numbersOf zeros numbers just bools nop end judgeOf fileOf exe empty offsets sections u32s u32 checkOf wholeFault libraryFault headerFault programFault badSizes misplacedTable misplaced overlappedWords wordsMeet wordsFault wordFault oneExecutable executableFault misplacedSection badEntry misplacedTables overlappedByTables flowOf flowFault mainTrace trace traceTo region visit parts faultAt spare size ownWords ownFrom controlOf decodeOf formatOf operations operatorsOf descriptorOf constantFault convertOf constantIf goodFloat24 f32Bits reportOf firstIn listOf onesIn namesEnd meets0
 judged = refl

@@ -32,12 +32,12 @@ use Rattle.verifier.specs.Executables.{entryAt, symbolsOf, rulesFor}
 use Rattle.verifier.specs.Words.{wordAt, wordsOf}
 
 -- 'A table with count 0 has no offset to test'; any other starts at a multiple of align from its section's start, and its entries of size bytes end inside the file
-pub record InPlace (align size length : ℕ) (t : Table) : Type 0 where
+pub record InPlace (align size bytes : ℕ) (t : Table) : Type 0 where
   pub aligned : t .offset % align ≡ 0
-  pub inside : t .start .0 + t .count * size ≤ length
+  pub inside : t .start .0 + t .count * size ≤ bytes
 
 abbrev pub Placed : ℕ → ℕ → ℕ → Table → Type 0
-Placed align size length t = (t .count ≡ 0 → ⊥) → InPlace align size length t
+Placed align size bytes t = (t .count ≡ 0 → ⊥) → InPlace align size bytes t
 
 -- the opcode table shares no byte with a range
 abbrev pub Apart : Table → Range → Type 0
@@ -118,12 +118,12 @@ pub record CleanWord (descriptors w : ℕ) : Type 0 where
   -- LOOP register over 3
   pub no12 : (r : ℕ) (dst : WordAddress) → controlOf w ≡ Loop r dst → r ≤ 3
 
--- the words as a program: the flow check looks at no descriptor; and the visits of an executable's main
-abbrev pub codeIn : List ℕ → Program → Code
-codeIn file p = codeOf (wordsOf file (p .words)) 0
+-- the words as a program with so many descriptors; the visits of an executable's main, for which the flow check looks at none
+abbrev pub codeIn : List ℕ → Program → ℕ → Code
+codeIn file p descriptors = codeOf (wordsOf file (p .words)) descriptors
 
 abbrev pub visitsIn : List ℕ → Program → Executable → List Visit
-visitsIn file p e = mainTrace (codeIn file p) (rulesFor e) (e .main .0) (e .endmain .0) .visits
+visitsIn file p e = mainTrace (codeIn file p 0) (rulesFor e) (e .main .0) (e .endmain .0) .visits
 
 -- 13 to 28 of an executable, at an index of a library with this program
 module _ (file : List ℕ) (p : Program) (index : ℕ) where
@@ -131,7 +131,7 @@ module _ (file : List ℕ) (p : Program) (index : ℕ) where
   e = executableOf file index
 
   abbrev C : Code
-  C = codeIn file p
+  C = codeIn file p 0
 
   abbrev EachEntry : Table → ℕ → (List ℕ → Type 0) → Type 0
   EachEntry t size P = (j : ℕ) → j < t .count → P (entryAt file t size j)

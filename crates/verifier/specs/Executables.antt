@@ -61,8 +61,8 @@ flowAt place (given m) = Nothing
 flowAt place (refused number word) = At number (place + word)
 
 -- 13 to 28 of one executable: 'table entries ascending'
-unfoldable pub oneFault : List ℕ → Program → ℕ → Fault
-oneFault file p index =
+unfoldable pub oneExecutable : List ℕ → Program → ℕ → Fault
+oneExecutable file p index =
     let e = executableOf file index in
     let place = placeOf index in
     orElse (executableFault 1 (p .words) file index place)
@@ -90,7 +90,7 @@ noReport =
       total = 0;
     }
 
--- 'executable, type, main, endmain, ones in the input mask, ones in the output mask, constants, distinct words visited, total'; zeros if the flow check refuses
+-- 'type, main, endmain, ones in the input mask, ones in the output mask, constants, distinct words visited, total'; zeros if the flow check refuses
 abbrev pub reportWith : Executable → Answer Measured → Report
 reportWith e (given m) =
     record {

@@ -9,6 +9,6 @@ unfoldable pub listOf {ℓ} : {A : Type ℓ} → (ℕ → A) → ℕ → ℕ →
 listOf f i zero = []
 listOf f i (suc n) = f i ∷ listOf f (i + 1) n
 
--- the same, and z after it up to a length of m
+-- the same, n at most m, and z after them up to a length of m
 abbrev pub filled {ℓ} : {A : Type ℓ} → (ℕ → A) → ℕ → ℕ → ℕ → A → List A
 filled f i m n z = listOf f i n ++ replicate (m - n) z

@@ -6,15 +6,12 @@ use Prim.Native.Nat.{ℕ, _≤_, _<_}
 use lib.ListN.{getD}
 use Rattle.container.specs.Executable.{executableOf}
 use Rattle.container.specs.Program.{programOf}
-use Rattle.flow.specs.Flow.{codeOf}
-use Rattle.flow.specs.Rules.{Code}
 use Rattle.flow.specs.Stepping.{Settings, start}
 use Rattle.flow.specs.Visits.{total}
 use Rattle.flow.specs.WholeRun.{Whole}
-use Rattle.verifier.specs.Clean.{Clean, visitsIn}
+use Rattle.verifier.specs.Clean.{codeIn, visitsIn, Clean}
 use Rattle.verifier.specs.Executables.{noReport}
 use Rattle.verifier.specs.Verdict.{libraryOf}
-use Rattle.verifier.specs.Words.{wordsOf}
 use Rattle.verifier.specs.declared.verdict.Checked.{Checked}
 use Rattle.verifier.specs.declared.verdict.Checked.the-variants.{Accepted}
 use Rattle.verifier.specs.declared.verdict.Judged.{Judged}
@@ -23,20 +20,16 @@ use Rattle.verifier.specs.declared.verdict.Report.{Report}
 use Rattle.verifier.specs.declared.verdict.Reported.{Reported}
 use Rattle.verifier.specs.declared.verdict.Reported.the-variants.{Given}
 
--- 'a file is accepted exactly when none of refusals 1 to 28 applies'
+-- 'accepted exactly if none applies' (document 01, 'What a statement has to tie down')
 pub record AcceptsClean (file : List ℕ) (r : Checked) : Type 0 where
   pub clean : (l : Library) → r ≡ Accepted l → Clean file
   pub accepted : Clean file → r ≡ Accepted (libraryOf file)
-
--- the words of a file and its descriptors, as a program
-abbrev pub programIn : List ℕ → Code
-programIn file = codeOf (wordsOf file (programOf file .words)) (programOf file .descriptors .count)
 
 -- a report of executable index: for all bools, all bytes x and every truth list the whole run stays inside the tables, with at most 4 calls, 8 IFs and 2 LOOPs open, and ends within the total;
 -- the total is at most 4,000,000, and is what the visits add to it
 pub record Promised (file : List ℕ) (index : ℕ) (t : Report) : Type 0 where
   pub runs : (v : Settings) → ((r : ℕ) → r ≤ 3 → v .ints r < 256)
-      → Whole (programIn file) v 4 8 2 (t .total) (start (executableOf file index .main .0) (executableOf file index .endmain .0))
+      → Whole (codeIn file (programOf file) (programOf file .descriptors .count)) v 4 8 2 (t .total) (start (executableOf file index .main .0) (executableOf file index .endmain .0))
   pub bounded : t .total ≤ 4000000
   pub counted : t .total ≡ total (visitsIn file (programOf file) (executableOf file index))
 

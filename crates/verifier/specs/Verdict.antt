@@ -1,6 +1,5 @@
 -- The whole check, and the answers of the public calls (document 01, 'Numbers given back', its last paragraph).
 -- Assumes nothing.
-use mathlib.Core.Path.{_≡_}
 use Prim.Native.Nat.{ℕ}
 use mathlib.Core.Bool.{cond}
 use mathlib.Core.List.{List}
@@ -12,7 +11,7 @@ use Rattle.answer.specs.declared.Fault.{Fault}
 use Rattle.answer.specs.declared.Fault.the-variants.{Nothing, At}
 use Rattle.container.specs.Program.{countOf, programOf, libraryFault}
 use Rattle.container.specs.declared.programs.Limits.{Limits}
-use Rattle.verifier.specs.Executables.{oneFault, noReport, reportOf}
+use Rattle.verifier.specs.Executables.{oneExecutable, noReport, reportOf}
 use Rattle.verifier.specs.Lists.{filled}
 use Rattle.verifier.specs.Words.{wordsOf, wordsFault}
 use Rattle.verifier.specs.declared.verdict.Checked.{Checked}
@@ -36,7 +35,7 @@ wholeFault file =
     let p = programOf file in
     orElse (libraryFault fullLimits file)
     (orElse (wordsFault (p .descriptors .count) (wordsOf file (p .words)))
-    (firstIn (oneFault file p) 0 (countOf file)))
+    (firstIn (oneExecutable file p) 0 (countOf file)))
 
 -- a fault is a refusal; else the value
 abbrev pub answerBy : {A : Type 0} → Fault → A → Answer A
@@ -77,17 +76,3 @@ judgedAs j = record { verdict = checkedAs (j .verdict); reports = j .reports }
 abbrev pub reportedAs : Reported → Answer Report
 reportedAs (reported.Given r) = given r
 reportedAs (reported.Refused number place) = refused number place
-
--- a refused library, as the code hands it over; a fault, or what was judged
-abbrev pub refusedBy : ℕ → ℕ → Judged
-refusedBy number place = record { verdict = checked.Refused number place; reports = replicate 16 noReport }
-
-abbrev pub judgedBy : Fault → Library → List Report → Judged
-judgedBy (At number place) l rs = refusedBy number place
-judgedBy Nothing l rs = record { verdict = checked.Accepted l; reports = rs }
-
--- what judging executables relies on: the file has passed 1 to 8, and these are its tables and words
-pub record Loaded (file : List ℕ) (l : Library) (ws : List ℕ) : Type 0 where
-  pub passed : libraryFault fullLimits file ≡ Nothing
-  pub program : l .program ≡ programOf file
-  pub words : ws ≡ wordsOf file (l .program .words)

@@ -4,9 +4,9 @@ ghost use Prim.Native.Nat.{_+_, _*_, _-_, _≤_};
 ghost use Rattle.answer.specs.Answers.{given};
 ghost use Rattle.answer.specs.Faults.{firstIn};
 ghost use Rattle.tables.specs.Names.{namesEnd};
-ghost use Rattle.verifier.specs.Executables.{entryAt, symbolsOf, oneFault, noReport, reportWith, reportOf};
+ghost use Rattle.verifier.specs.Executables.{entryAt, symbolsOf, oneExecutable, noReport, reportWith, reportOf};
 ghost use Rattle.verifier.specs.Lists.{filled};
-ghost use Rattle.verifier.specs.Verdict.{Loaded, judgedBy};
+ghost use Rattle.verifier.specs.Inside.{Loaded, judgedBy};
 use crate::verdict::Checked;
 use crate::verdict::Judged;
 use crate::verdict::Library;
@@ -68,6 +68,7 @@ fn report_with(e: Executable, total: u32, words: u32) -> Report
 }
 
 // 13 to 28 of the executables from `first` up to `end`, in their order, and the reports of these: one executable alone is a range of one.
+// `Accepted` says that these have no fault; of the others it says nothing.
 pub(crate) fn judge_executables(
     file: &[u8],
     library: Library,
@@ -76,7 +77,7 @@ pub(crate) fn judge_executables(
     end: u32,
 ) -> Judged
     requires { ⌜ Loaded (now file) library (now words) × (end ≤ 16) ⌝ }
-    ensures { λ r. ⌜ r ≡ judgedBy (firstIn (oneFault (now (file .entry)) (library .program)) first (end - first)) library (filled (reportOf (now (file .entry)) (library .program)) first 16 (end - first) noReport) ⌝ }
+    ensures { λ r. ⌜ r ≡ judgedBy (firstIn (oneExecutable (now (file .entry)) (library .program)) first (end - first)) library (filled (reportOf (now (file .entry)) (library .program)) first 16 (end - first) noReport) ⌝ }
 {
     let count = library.program.words.count;
     let mut found = Fault::Nothing;

@@ -1,8 +1,9 @@
 // The verdict on a whole library, and the reports of its executables.
 ghost use mathlib.Core.Path.{_≡_};
 ghost use Rattle.verifier.specs.Executables.{noReport};
+ghost use Rattle.verifier.specs.Inside.{refusedBy};
 ghost use Rattle.verifier.specs.Promise.{AcceptsClean, Promises, PromisesAll};
-ghost use Rattle.verifier.specs.Verdict.{checkOf, checkedAs, judgeOf, judgedAs, reportAnswer, reportedAs, refusedBy};
+ghost use Rattle.verifier.specs.Verdict.{checkOf, checkedAs, judgeOf, judgedAs, reportAnswer, reportedAs};
 use crate::executables::judge_executables;
 use crate::words::words_fault;
 use crate::words::words_of;
@@ -25,7 +26,7 @@ pub enum Checked {
     Refused { number: u32, place: u32 },
 }
 
-// What an executable's run may cost: its type, main and endmain, the ones in its input and output masks, its constants, the distinct words visited, the total.
+// The report of an executable: its type, main and endmain, the ones in its input and output masks, its constants, the distinct words visited, the total.
 pub struct Report {
     pub shader_type: u8,
     pub main: WordAddress,
