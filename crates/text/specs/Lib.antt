@@ -1,0 +1,5 @@
+pub mod Operands
+pub mod Pieces
+pub mod Put
+pub mod Records
+pub mod Registers
