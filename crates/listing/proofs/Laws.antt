@@ -1,0 +1,58 @@
+-- Laws of reading from a part of the file, and of records written one after another. Assumes nothing.
+use mathlib.Core.Path.{_≡_, refl, sym, ap, _∙_}
+use mathlib.Core.List.{List, [], _∷_, _++_, append-assoc}
+use Prim.Native.Nat.{ℕ, zero, suc, _+_, _*_, _-_, _≤_, _<_}
+use native.Mathlib.Numerals.{add-one}
+use native.Mathlib.Omega.{arith}
+use lib.ListN.{length, getD, set, take, drop, length-append, length-drop}
+use lib.Seq.{sets, sets-eq, drop-drop, getD-drop, take-suc, take-suc-set, length-take-le}
+use borrow.Rule.Slice.PartMut.{putMid, postOf}
+use Rattle.binary.specs.Bytes.{u32At}
+use Rattle.container.specs.declared.placement.Table.{Table}
+use Rattle.listing.specs.Listing.{descriptorAt, recordsOf}
+use Rattle.text.proofs.Putting.{sets-append}
+use Rattle.verifier.specs.Lists.{filled}
+
+-- a number in the bytes from an offset on
+pub u32-drop : (s : List ℕ) (at k : ℕ) → u32At (drop at s) k ≡ u32At s (at + k)
+u32-drop s at k =
+    let a : at + (k + 1) ≡ at + k + 1 = omega arith in
+    let b : at + (k + 2) ≡ at + k + 2 = omega arith in
+    let c : at + (k + 2 + 1) ≡ at + k + 2 + 1 = omega arith in
+    rw (getD-drop at s k 0, getD-drop at s (k + 1) 0, getD-drop at s (k + 2) 0, getD-drop at s (k + 2 + 1) 0, a, b, c)
+
+-- the descriptors, read from their table's start on
+pub descriptors-drop : (file : List ℕ) (t : Table) (n : ℕ) {rest : List ℕ} → rest ≡ drop (t .start .0) file → filled (λ k. u32At rest (k * 8)) 0 128 n 0 ≡ filled (descriptorAt file t) 0 128 n 0
+descriptors-drop file t n e = rw e (ap (λ (f : ℕ → ℕ). filled f 0 128 n 0) (λ i k. u32-drop file (t .start .0) (k * 8) i))
+
+-- one more byte of a line
+pub byte-next : (line part : List ℕ) (i : ℕ) → i < length part → i < length line → take i part ≡ take i line → take (i + 1) (set part i (getD line i 0)) ≡ take (i + 1) line
+byte-next line part i h k e = rw (add-one i, take-suc-set part i (getD line i 0) h, take-suc line i 0 k, e)
+
+-- a part that was lent comes back as stores
+put-mid : (a k : ℕ) (xs ys : List ℕ) → length ys ≡ k → a + k ≤ length xs → putMid a k xs ys ≡ sets xs a ys
+put-mid a k xs ys e h =
+    let h′ : a + length ys ≤ length xs = rw e h in
+    rw (sets-eq ys xs a h′, e) (rw (drop-drop k a xs) (sym (append-assoc (take a xs) ys (drop (a + k) xs))))
+
+-- the part of a buffer for record i
+pub part-wide : (i : ℕ) (out : List ℕ) → i * 80 + 80 ≤ length out → length (take (i * 80 + 80 - i * 80) (drop (i * 80) out)) ≡ 80
+part-wide i out h =
+    let t : i * 80 + 80 - i * 80 ≡ 80 = omega arith in
+    rw t (length-take-le 80 (drop (i * 80) out) (omega (arith, length-drop (i * 80) out)))
+
+-- records of 80 bytes each
+module _ (f : ℕ → List ℕ) (wide : (i : ℕ) → length (f i) ≡ 80) where
+  records-length : (n : ℕ) → length (recordsOf f n) ≡ n * 80
+  unfolding recordsOf
+  records-length zero = refl
+  records-length (suc n) = omega (arith, length-append (recordsOf f n) (f n), records-length n, wide n)
+
+  -- one more record
+  pub record-next : (i : ℕ) (l : List ℕ) {out line : List ℕ} → out ≡ sets l 0 (recordsOf f i) → line ≡ f i → i * 80 + 80 ≤ length out
+      → putMid (i * 80) (i * 80 + 80 - i * 80) out line ≡ sets l 0 (recordsOf f (i + 1))
+  unfolding recordsOf
+  record-next i l {out} {line} e n h =
+      let t : i * 80 + 80 - i * 80 ≡ 80 = omega arith in
+      let q : 0 + length (recordsOf f i) ≡ i * 80 = omega (arith, records-length i) in
+      rw (t, put-mid (i * 80) 80 out line (ap length n ∙ wide i) h, add-one i, sets-append (recordsOf f i) (f i) l 0, q, e, n)

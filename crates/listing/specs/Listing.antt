@@ -1,0 +1,83 @@
+-- The listing and the report of a whole library (document 01, 'Listing and report', 'Numbers given back').
+-- Assumes nothing.
+use Prim.Native.Nat.{ℕ, zero, suc, _+_, _*_}
+use mathlib.Core.Bool.{cond}
+use mathlib.Core.List.{List, [], _∷_, _++_}
+use lib.Dec.{ltb}
+use lib.ListN.{length}
+use lib.Seq.{sets}
+use Rattle.answer.specs.Answers.{Answer, given, refused}
+use Rattle.binary.specs.Bytes.{u32At}
+use Rattle.container.specs.declared.placement.Table.{Table}
+use Rattle.container.specs.declared.programs.Program.{Program}
+use Rattle.text.specs.Records.{recordOf, lineText, reportText}
+use Rattle.verifier.specs.Executables.{reportOf}
+use Rattle.verifier.specs.Lists.{listOf}
+use Rattle.verifier.specs.Verdict.{checkOf}
+use Rattle.verifier.specs.Words.{wordAt}
+use Rattle.verifier.specs.declared.verdict.Library.{Library}
+use Rattle.listing.specs.declared.Written.{Written}
+use Rattle.listing.specs.declared.Written.the-variants as written
+
+-- 'descriptor 8 (first 4 are used)'
+abbrev pub descriptorAt : List ℕ → Table → ℕ → ℕ
+descriptorAt file t i = u32At file (t .start .0 + i * 8)
+
+abbrev pub descriptorsOf : List ℕ → Table → List ℕ
+descriptorsOf file t = listOf (descriptorAt file t) 0 (t .count)
+
+-- the records at 0, 1, .., n in all, one after another
+unfoldable pub recordsOf : (ℕ → List ℕ) → ℕ → List ℕ
+recordsOf f zero = []
+recordsOf f (suc n) = recordsOf f n ++ f n
+
+-- 'Listing, one record per word'
+abbrev pub lineAt : List ℕ → Program → ℕ → List ℕ
+lineAt file p i = recordOf 80 (lineText i (wordAt file (p .words) i) (descriptorsOf file (p .descriptors)))
+
+-- 'A file has one record per executable'
+abbrev pub summaryAt : List ℕ → Program → ℕ → List ℕ
+summaryAt file p i = recordOf 80 (reportText i (reportOf file p i))
+
+-- '30 .. after the whole check': a lent buffer of so many bytes is too short for n records. The number of bytes written; the buffer's final bytes, none changed beyond them or by a refusal
+abbrev pub room : ℕ → ℕ → Answer ℕ
+room bytes n = cond (ltb bytes (n * 80)) (refused 30 0) (given (n * 80))
+
+abbrev pub writes : Answer ℕ → List ℕ → List ℕ → List ℕ
+writes (given n) records old = sets old 0 records
+writes (refused number place) records old = old
+
+-- the listing
+abbrev pub listIn : ℕ → Answer Library → Answer ℕ
+listIn bytes (given l) = room bytes (l .program .words .count)
+listIn bytes (refused number place) = refused number place
+
+abbrev pub linesIn : List ℕ → Answer Library → List ℕ
+linesIn file (given l) = recordsOf (lineAt file (l .program)) (l .program .words .count)
+linesIn file (refused number place) = []
+
+unfoldable pub listAnswer : List ℕ → ℕ → Answer ℕ
+listAnswer file bytes = listIn bytes (checkOf file)
+
+unfoldable pub listedBytes : List ℕ → List ℕ → List ℕ
+listedBytes file old = writes (listAnswer file (length old)) (linesIn file (checkOf file)) old
+
+-- the report
+abbrev pub summaryIn : ℕ → Answer Library → Answer ℕ
+summaryIn bytes (given l) = room bytes (l .executables)
+summaryIn bytes (refused number place) = refused number place
+
+abbrev pub summariesIn : List ℕ → Answer Library → List ℕ
+summariesIn file (given l) = recordsOf (summaryAt file (l .program)) (l .executables)
+summariesIn file (refused number place) = []
+
+unfoldable pub summaryAnswer : List ℕ → ℕ → Answer ℕ
+summaryAnswer file bytes = summaryIn bytes (checkOf file)
+
+unfoldable pub summaryBytes : List ℕ → List ℕ → List ℕ
+summaryBytes file old = writes (summaryAnswer file (length old)) (summariesIn file (checkOf file)) old
+
+-- the code's answer
+abbrev pub writtenAs : Written → Answer ℕ
+writtenAs (written.Bytes n) = given n
+writtenAs (written.Refused number place) = refused number place
