@@ -43,7 +43,7 @@ part-wide i out h =
 
 -- records of 80 bytes each
 module _ (f : ℕ → List ℕ) (wide : (i : ℕ) → length (f i) ≡ 80) where
-  records-length : (n : ℕ) → length (recordsOf f n) ≡ n * 80
+  pub records-length : (n : ℕ) → length (recordsOf f n) ≡ n * 80
   unfolding recordsOf
   records-length zero = refl
   records-length (suc n) = omega (arith, length-append (recordsOf f n) (f n), records-length n, wide n)

@@ -1,3 +1,4 @@
 pub mod Putting
 pub mod Records
 pub mod Fits
+pub mod Trials
