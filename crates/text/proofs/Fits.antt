@@ -85,7 +85,7 @@ written-fits bit k = either (eqb bit 0) (short (omega arith)) (short (omega arit
 
 mask-fits : (m : ℕ) → Fits (maskText m) 4
 unfolding maskText
-mask-fits m = either (eqb (m % 16) 0) (short (omega arith)) (written-fits (m / 8 % 2) 0 and written-fits (m / 4 % 2) 1 and written-fits (m / 2 % 2) 2 and written-fits (m % 2) 3)
+mask-fits m = either (eqb (m % 16) 0) (short (omega arith)) (written-fits _ _ and written-fits _ _ and written-fits _ _ and written-fits _ _)
 
 place-fits : (op n : ℕ) → Fits (placeText op n) 3
 unfolding placeText
@@ -150,15 +150,15 @@ format-4-fits winding primemit vtxid =
 pub operands-fit : (ds : List ℕ) (f : Fields) → Fits (operandsIn ds f) 56
 unfolding operandsIn
 operands-fit ds (Format0 op rest) = short (omega arith)
-operands-fit ds (Format1 op desc src2 src1 idx1 dst) = room (omega arith) (two-fit op dst (getD ds desc 0) src1 idx1 src2 0)
-operands-fit ds (Format1i op desc src2 src1 idx2 dst) = room (omega arith) (two-fit op dst (getD ds desc 0) src1 0 src2 idx2)
-operands-fit ds (Format1u op desc rest src1 idx1 dst) = room (omega arith) (one-fits op dst (getD ds desc 0) src1 idx1)
-operands-fit ds (Format1c op desc src2 src1 idx1 cmpy cmpx) = room (omega arith) (compare-fits (getD ds desc 0) src1 idx1 cmpx cmpy src2)
+operands-fit ds (Format1 op desc src2 src1 idx1 dst) = room (omega arith) (two-fit _ _ _ _ _ _ _)
+operands-fit ds (Format1i op desc src2 src1 idx2 dst) = room (omega arith) (two-fit _ _ _ _ _ _ _)
+operands-fit ds (Format1u op desc rest src1 idx1 dst) = room (omega arith) (one-fits _ _ _ _ _)
+operands-fit ds (Format1c op desc src2 src1 idx1 cmpy cmpx) = room (omega arith) (compare-fits _ _ _ _ _ _)
 operands-fit ds (Format2 op num rest dst condop refy refx) = room (omega arith) (format-2-fits op num dst condop refy refx)
 operands-fit ds (Format3 op num rest dst id) = room (omega arith) (format-3-fits op num dst id)
 operands-fit ds (Format4 op rest winding primemit vtxid) = room (omega arith) (format-4-fits winding primemit vtxid)
-operands-fit ds (Format5 op desc src3 src2 src1 idx2 dst) = three-fit op dst (getD ds desc 0) src1 src2 idx2 src3 0
-operands-fit ds (Format5i op desc src3 src2 src1 idx3 dst) = three-fit op dst (getD ds desc 0) src1 src2 0 src3 idx3
+operands-fit ds (Format5 op desc src3 src2 src1 idx2 dst) = three-fit _ _ _ _ _ _ _ _
+operands-fit ds (Format5i op desc src3 src2 src1 idx3 dst) = three-fit _ _ _ _ _ _ _ _
 
 -- a record has its width
 pub record-length : (n : ℕ) (p : List ℕ) → Fits p n → length (recordOf (n + 1) p) ≡ n + 1

@@ -1,4 +1,4 @@
-// The lines of a library, and the one of an input that is cut short.
+// The lines of a library.
 use libc::STDOUT_FILENO;
 use verifier::Checked;
 use verifier::Judged;
@@ -52,15 +52,4 @@ pub(crate) fn write_judged(judged: Judged) {
             end_line();
         }
     }
-}
-
-pub(crate) fn write_cut_length(got: usize) {
-    write_part(b"cut short: ", got as u64);
-    io::write_all(STDOUT_FILENO, b" bytes of a length\n");
-}
-
-pub(crate) fn write_cut_library(got: usize, length: usize) {
-    write_part(b"cut short: ", got as u64);
-    write_part(b" bytes of ", length as u64);
-    end_line();
 }

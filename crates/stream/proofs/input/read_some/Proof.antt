@@ -3,8 +3,8 @@ use lib.ListN.{length-append}
 use native.Mathlib.Omega.{arith}
 use borrow.Author.Needs.{needs}
 use Rattle.io.proofs.Counting.{counts, front}
-use Rattle.trial_check.proofs.input.read_some.Statement.{statement}
-use Rattle.trial_check.proofs.input.read_some.Tie as tie
+use Rattle.stream.proofs.input.read_some.Statement.{statement}
+use Rattle.stream.proofs.input.read_some.Tie as tie
 
 slice-aggregate-read-full : tie.Need-slice-aggregate-read-full
 slice-aggregate-read-full c = front _ _ (omega arith)

@@ -3,8 +3,8 @@ use mathlib.Core.Path.{_≡_}
 use Prim.Native.Nat.{_≤_}
 use lib.ListN.{length}
 use borrow.Author.Needs.{needs}
-use Rattle.trial_check.proofs.input.skip.Statement.{statement}
-use Rattle.trial_check.proofs.input.skip.Tie as tie
+use Rattle.stream.proofs.input.skip.Statement.{statement}
+use Rattle.stream.proofs.input.skip.Tie as tie
 
 abbrev Inv-loop : tie.InvT-loop
 Inv-loop count piece₀ left₀ piece left = (left ≤ count) × (4096 ≡ length piece)
