@@ -1,3 +1,4 @@
-pub mod Laws
-pub mod Answers
+pub mod Trials
 pub mod Beyond
+pub mod Answers
+pub mod Laws

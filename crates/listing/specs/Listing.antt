@@ -39,40 +39,41 @@ lineAt file p i = recordOf 80 (lineText i (wordAt file (p .words) i) (descriptor
 abbrev pub summaryAt : List ℕ → Program → ℕ → List ℕ
 summaryAt file p i = recordOf 80 (reportText i (reportOf file p i))
 
--- '30 .. after the whole check': a lent buffer of so many bytes is too short for n records. The number of bytes written; the buffer's final bytes, none changed beyond them or by a refusal
+-- 30, 'lent buffer too short', for n records of 80 bytes; else how many bytes are written
 abbrev pub room : ℕ → ℕ → Answer ℕ
-room bytes n = cond (ltb bytes (n * 80)) (refused 30 0) (given (n * 80))
+room size n = cond (ltb size (n * 80)) (refused 30 0) (given (n * 80))
 
+-- the buffer's final bytes: the records in the place of its first, and none beyond; as they were where the answer is a refusal
 abbrev pub writes : Answer ℕ → List ℕ → List ℕ → List ℕ
 writes (given n) records old = sets old 0 records
 writes (refused number place) records old = old
 
 -- the listing
 abbrev pub listIn : ℕ → Answer Library → Answer ℕ
-listIn bytes (given l) = room bytes (l .program .words .count)
-listIn bytes (refused number place) = refused number place
+listIn size (given l) = room size (l .program .words .count)
+listIn size (refused number place) = refused number place
 
 abbrev pub linesIn : List ℕ → Answer Library → List ℕ
 linesIn file (given l) = recordsOf (lineAt file (l .program)) (l .program .words .count)
 linesIn file (refused number place) = []
 
 unfoldable pub listAnswer : List ℕ → ℕ → Answer ℕ
-listAnswer file bytes = listIn bytes (checkOf file)
+listAnswer file size = listIn size (checkOf file)
 
 unfoldable pub listedBytes : List ℕ → List ℕ → List ℕ
 listedBytes file old = writes (listAnswer file (length old)) (linesIn file (checkOf file)) old
 
 -- the report
 abbrev pub summaryIn : ℕ → Answer Library → Answer ℕ
-summaryIn bytes (given l) = room bytes (l .executables)
-summaryIn bytes (refused number place) = refused number place
+summaryIn size (given l) = room size (l .executables)
+summaryIn size (refused number place) = refused number place
 
 abbrev pub summariesIn : List ℕ → Answer Library → List ℕ
 summariesIn file (given l) = recordsOf (summaryAt file (l .program)) (l .executables)
 summariesIn file (refused number place) = []
 
 unfoldable pub summaryAnswer : List ℕ → ℕ → Answer ℕ
-summaryAnswer file bytes = summaryIn bytes (checkOf file)
+summaryAnswer file size = summaryIn size (checkOf file)
 
 unfoldable pub summaryBytes : List ℕ → List ℕ → List ℕ
 summaryBytes file old = writes (summaryAnswer file (length old)) (summariesIn file (checkOf file)) old

@@ -100,19 +100,19 @@ pub fn summarize(file: &[u8], out: &mut [u8]) -> Written
             return Written::Refused { number, place };
         }
     };
-    let count = library.executables as usize;
-    if out.len() < count * 80 {
+    let executables = library.executables as usize;
+    if out.len() < executables * 80 {
         return Written::Refused {
             number: 30,
             place: 0,
         };
     }
     let reports = judged.reports;
-    for i in 0..count {
+    for i in 0..executables {
         let line = report_line(i as u32, reports[i]);
-        let at = i * 80;
-        let end = at + 80;
-        write_line(&mut out[at..end], line);
+        let from = i * 80;
+        let to = from + 80;
+        write_line(&mut out[from..to], line);
     }
     Written::Bytes(library.executables * 80)
 }

@@ -18,8 +18,8 @@ use Rattle.instruction.specs.declared.decoding.Fields.the-variants.{Format0, Fo
 use Rattle.instruction.specs.declared.operand.Source.{Source}
 use Rattle.text.specs.Operands.{operatorText, targetText, conditionText, oneSource, twoSources, threeSources, compareText, ofFormat2, ofFormat3, ofFormat4, operandsIn}
 use Rattle.text.specs.Pieces.{bytes, padded, digits, decimal, lettered, labelled, nameIn, nameText}
-use Rattle.text.specs.Records.{recordOf, operationText, lineText, entryText, countsText, reportText, refusedText}
-use Rattle.text.specs.Registers.{registerText, signText, indexText, selectorsText, sourceText, writtenText, maskText, placeText, destinationText}
+use Rattle.text.specs.Records.{recordOf, operationText, lineText, headText, countsText, reportText, refusedText}
+use Rattle.text.specs.Registers.{registerText, signText, indexText, selectorsText, sourceText, writtenText, maskText, writtenRegister, destinationText}
 use Rattle.text.proofs.Putting.{length-digits}
 use Rattle.verifier.specs.declared.verdict.Report.{Report}
 
@@ -87,13 +87,13 @@ mask-fits : (m : ℕ) → Fits (maskText m) 4
 unfolding maskText
 mask-fits m = either (eqb (m % 16) 0) (short (omega arith)) (written-fits _ _ and written-fits _ _ and written-fits _ _ and written-fits _ _)
 
-place-fits : (op n : ℕ) → Fits (placeText op n) 3
-unfolding placeText
-place-fits op n = either (eqb op 0x12) (lettered-fits (code "a") 0) (either (ltb n 0x10) (lettered-fits (code "o") n) (lettered-fits (code "r") (n - 0x10)))
+written-register-fits : (op n : ℕ) → Fits (writtenRegister op n) 3
+unfolding writtenRegister
+written-register-fits op n = either (eqb op 0x12) (lettered-fits (code "a") 0) (either (ltb n 0x10) (lettered-fits (code "o") n) (lettered-fits (code "r") (n - 0x10)))
 
 destination-fits : (op n m : ℕ) → Fits (destinationText op n m) 8
 unfolding destinationText
-destination-fits op n m = place-fits op n and byte-fits (code ".") and mask-fits m
+destination-fits op n m = written-register-fits op n and byte-fits (code ".") and mask-fits m
 
 operator-fits : (k : ℕ) → Fits (operatorText k) 2
 unfolding operatorText
@@ -146,7 +146,7 @@ unfolding ofFormat4
 format-4-fits winding primemit vtxid =
     lettered-fits (code "v") vtxid and byte-fits (code " ") and lettered-fits (code "p") primemit and byte-fits (code " ") and lettered-fits (code "w") winding
 
--- the operands of every word: 57 columns are enough
+-- the operands of every word have at most 56 bytes, so that 57 columns are enough
 pub operands-fit : (ds : List ℕ) (f : Fields) → Fits (operandsIn ds f) 56
 unfolding operandsIn
 operands-fit ds (Format0 op rest) = short (omega arith)
@@ -201,7 +201,7 @@ line-fits index word ds =
     room {m = 78} (omega arith) (digits-fit 16 4 index and byte-fits (code " ") and digits-fit 16 8 word and byte-fits (code " ") and operation-fits ds (decodeOf word))
 
 pub report-fits : (index : ℕ) (r : Report) → Fits (reportText index r) 79
-unfolding reportText entryText countsText
+unfolding reportText headText countsText
 report-fits index r =
     room {m = 78} (omega arith)
     ((labelled-fits (bytes "exe ") 2 index and labelled-fits (bytes " type ") 1 (r .«shader_type») and labelled-fits (bytes " main ") 4 (r .main .0) and labelled-fits (bytes " end ") 4 (r .endmain .0))

@@ -63,18 +63,17 @@ below (suc n) f e k h =
     by p g true c = rw (eqb-true k n c) p
     by p g false c = g (omega (arith, h, eqb-false k n c))
 
-table : List ℕ
+abbrev table : List ℕ
 table = bytes "ADD    DP3    DP4    DPH    DST    EX2    LG2    LITP   MUL    SGE    SLT    FLR    MAX    MIN    RCP    RSQ                  MOVA   MOV                                DPHI   DSTI   SGEI   SLTI                               BREAK  NOP    END    BREAKC CALL   CALLC  CALLU  IFU    IFC    LOOP   EMIT   SETEMITJMPC   JMPU   CMP           MADI                                                    MAD                                                     "
 
 named : allBelow 64 (λ op. same (take 7 (drop (op * 7) table)) (nameText op)) ≡ true
-unfolding allBelow same table nameText operations
+unfolding allBelow same nameText operations
 named = refl
 
 -- .. so the part of the table at an operation's number is its name
 pub name-put : (op : ℕ) {at r : ℕ} {l l′ : List ℕ} → op < 64
-    → Put (take (op * 7 + 7 - op * 7) (drop (op * 7) (bytes "ADD    DP3    DP4    DPH    DST    EX2    LG2    LITP   MUL    SGE    SLT    FLR    MAX    MIN    RCP    RSQ                  MOVA   MOV                                DPHI   DSTI   SGEI   SLTI                               BREAK  NOP    END    BREAKC CALL   CALLC  CALLU  IFU    IFC    LOOP   EMIT   SETEMITJMPC   JMPU   CMP           MADI                                                    MAD                                                     "))) (length (take (op * 7 + 7 - op * 7) (drop (op * 7) (bytes "ADD    DP3    DP4    DPH    DST    EX2    LG2    LITP   MUL    SGE    SLT    FLR    MAX    MIN    RCP    RSQ                  MOVA   MOV                                DPHI   DSTI   SGEI   SLTI                               BREAK  NOP    END    BREAKC CALL   CALLC  CALLU  IFU    IFC    LOOP   EMIT   SETEMITJMPC   JMPU   CMP           MADI                                                    MAD                                                     ")))) at r l l′
+    → Put (take (op * 7 + 7 - op * 7) (drop (op * 7) table)) (length (take (op * 7 + 7 - op * 7) (drop (op * 7) table))) at r l l′
     → Put (nameText op) 7 at r l l′
-unfolding table
 name-put op h a =
     let z : op * 7 + 7 - op * 7 ≡ 7 = omega arith in
     let e : take 7 (drop (op * 7) table) ≡ nameText op = same-is _ _ (below 64 (λ k. same (take 7 (drop (k * 7) table)) (nameText k)) named op h) in

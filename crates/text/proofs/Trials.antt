@@ -9,8 +9,8 @@ use Rattle.instruction.specs.Operations.{operations, formatOf}
 use Rattle.instruction.specs.Words.{decodeOf}
 use Rattle.text.specs.Operands.{operatorText, targetText, conditionText, oneSource, twoSources, threeSources, compareText, ofFormat2, ofFormat3, ofFormat4, operandsIn}
 use Rattle.text.specs.Pieces.{bytes, digits, decimal, lettered, labelled, nameText}
-use Rattle.text.specs.Records.{operationText, lineText, entryText, countsText, reportText, refusedText}
-use Rattle.text.specs.Registers.{registerText, signText, indexText, selectorsText, sourceText, writtenText, maskText, placeText, destinationText}
+use Rattle.text.specs.Records.{recordOf, operationText, lineText, headText, countsText, reportText, refusedText}
+use Rattle.text.specs.Registers.{registerText, signText, indexText, selectorsText, sourceText, writtenText, maskText, writtenRegister, destinationText}
 use Rattle.verifier.specs.declared.verdict.Report.{Report}
 
 -- a word, the ID of its descriptor and that descriptor, and the text of its name and operands
@@ -51,24 +51,33 @@ trials =
     trial 0xa4401000 0 0x00000000 "LOOP    i1 0004" ∷
     trial 0xa4401007 0 0x00000000 "LOOP    i1 0004" ∷
     trial 0xae800000 0 0x00000000 "SETEMIT v2 p1 w0" ∷
+    trial 0xa2805401 0 0x00000000 "IFC     x1 0015+01" ∷
+    trial 0xa2013702 0 0x00000000 "IFC     x1|y0 004D+02" ∷
+    trial 0xa140e801 0 0x00000000 "IFC     x0&y1 003A+01" ∷
+    trial 0xbc4776dd 93 0xccd7726e "CMP     c87.zyxw,GT,LT,-v13.yywy" ∷
+    trial 0xbb5f3bea 106 0xccc7ef5d "CMP     -c83[aL].ywzz,LE,LT,-r7.xyww" ∷
+    trial 0x4c91ee10 16 0xfe06d003 "MOV     o4.zw,r14[a0.y].zxxx" ∷
     []
 
 written : map (λ t. operationText (replicate (t .id) 0 ++ t .descriptor ∷ []) (decodeOf (t .word))) trials ≡ map (λ t. bytes (t .text)) trials
-unfolding trials trial operationText operandsIn operatorText targetText conditionText oneSource twoSources threeSources compareText ofFormat2 ofFormat3 ofFormat4 registerText signText indexText selectorsText sourceText writtenText maskText placeText destinationText digits decimal lettered nameText decodeOf formatOf operations
+unfolding trials trial operationText operandsIn operatorText targetText conditionText oneSource twoSources threeSources compareText ofFormat2 ofFormat3 ofFormat4 registerText signText indexText selectorsText sourceText writtenText maskText writtenRegister destinationText digits decimal lettered nameText decodeOf formatOf operations
 written = refl
 
--- the second line of the example, its report, and a refusal at executable 1
-lines : lineText 1 0x9cc00c00 [] ≡ bytes "0001 9CC00C00 IFU     b3 0003+00"
+-- a whole record: the example's second line, at another index
+lines : recordOf 80 (lineText 0x1fa 0x9cc00c00 []) ≡ bytes "01FA 9CC00C00 IFU     b3 0003+00                                               \n"
 unfolding lineText operationText operandsIn ofFormat3 targetText digits decimal lettered nameText decodeOf formatOf operations
 lines = refl
 
-example : Report
-example = record { «shader_type» = 0; main = wordAddress 0; endmain = wordAddress 5; inputs = 1; outputs = 1; constants = 0; words = 5; total = 5 }
+-- the example's report, and one with nine different numbers
+report : ℕ → ℕ → ℕ → ℕ → ℕ → ℕ → ℕ → ℕ → Report
+report t m e i o c w n = record { «shader_type» = t; main = wordAddress m; endmain = wordAddress e; inputs = i; outputs = o; constants = c; words = w; total = n }
 
-reports : reportText 0 example ≡ bytes "exe 00 type 0 main 0000 end 0005 in 01 out 01 con 0000 words 0005 most 0000005"
-unfolding example reportText entryText countsText labelled digits
+reports : reportText 0 (report 0 0 5 1 1 0 5 5) ∷ reportText 9 (report 1 3 31 16 11 2 75 2105150) ∷ []
+    ≡ bytes "exe 00 type 0 main 0000 end 0005 in 01 out 01 con 0000 words 0005 most 0000005" ∷ bytes "exe 09 type 1 main 0003 end 0031 in 16 out 11 con 0002 words 0075 most 2105150" ∷ []
+unfolding report reportText headText countsText labelled digits
 reports = refl
 
+-- a refusal at executable 1
 refusals : refusedText 26 65546 ≡ bytes "refused 26 0001000A"
 unfolding refusedText labelled digits
 refusals = refl

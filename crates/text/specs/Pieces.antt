@@ -21,10 +21,11 @@ bytes s = bytesFrom (len s) 0 s
 abbrev pub padded : ℕ → List ℕ → List ℕ
 padded width p = p ++ replicate (width - length p) 0x20
 
--- 'Hex is upper case, zero-filled': the lowest digits of n, as many as the width says
+-- a digit, of base 16 at most
 abbrev pub digit : ℕ → ℕ
 digit n = getD (bytes "0123456789ABCDEF") n 0
 
+-- 'Hex is upper case, zero-filled': the lowest digits of n in a base, as many as the width says
 unfoldable pub digits : ℕ → ℕ → ℕ → List ℕ
 digits base zero n = []
 digits base (suc k) n = digits base k (n / base) ++ digit (n % base) ∷ []
@@ -40,10 +41,11 @@ lettered letter n = letter ∷ [] ++ decimal n
 unfoldable pub labelled : List ℕ → ℕ → ℕ → List ℕ
 labelled label width n = label ++ digits 10 width n
 
--- the name of the operation numbered op, in seven columns; none for an unknown word
+-- the name of the operation numbered op; none if the list has no such number
 abbrev pub nameIn : List Operation → ℕ → List ℕ
 nameIn [] op = []
 nameIn (o ∷ os) op = cond (eqb op (o .lowest)) (bytes (o .name)) (nameIn os op)
 
+-- .. in seven columns
 unfoldable pub nameText : ℕ → List ℕ
 nameText op = padded 7 (nameIn operations op)

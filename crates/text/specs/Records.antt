@@ -22,9 +22,9 @@ operationText ds (refused n p) = []
 unfoldable pub lineText : ℕ → ℕ → List ℕ → List ℕ
 lineText index word ds = digits 16 4 index ++ bytes " " ++ digits 16 8 word ++ bytes " " ++ operationText ds (decodeOf word)
 
--- 'All decimal: executable, type, main, endmain, ones in the input mask, ones in the output mask, constants, distinct words visited, total'
-unfoldable pub entryText : ℕ → Report → List ℕ
-entryText index r =
+-- what an executable is, and what was counted of it
+unfoldable pub headText : ℕ → Report → List ℕ
+headText index r =
     labelled (bytes "exe ") 2 index ++ labelled (bytes " type ") 1 (r .«shader_type») ++ labelled (bytes " main ") 4 (r .main .0) ++ labelled (bytes " end ") 4 (r .endmain .0)
 
 unfoldable pub countsText : Report → List ℕ
@@ -32,8 +32,9 @@ countsText r =
     labelled (bytes " in ") 2 (r .inputs) ++ labelled (bytes " out ") 2 (r .outputs) ++ labelled (bytes " con ") 4 (r .constants)
     ++ labelled (bytes " words ") 4 (r .words) ++ labelled (bytes " most ") 7 (r .total)
 
+-- 'All decimal: executable, type, main, endmain, ones in the input mask, ones in the output mask, constants, distinct words visited, total'
 unfoldable pub reportText : ℕ → Report → List ℕ
-reportText index r = entryText index r ++ countsText r
+reportText index r = headText index r ++ countsText r
 
 -- '`refused `, two decimal digits, a space, the place as 8 hex digits'
 unfoldable pub refusedText : ℕ → ℕ → List ℕ

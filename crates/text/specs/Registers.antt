@@ -31,17 +31,18 @@ selectorsText s = bytes "." ++ component (s .component0) ∷ [] ++ component (s 
 unfoldable pub sourceText : Source → ℕ → ℕ → List ℕ
 sourceText s register idx = signText (s .negated) ++ registerText register ++ indexText idx ++ selectorsText s
 
--- 'the written components in the order xyzw, `_` if none'; x is 8, y 4, z 2, w 1
+-- a component, if its bit is set
 unfoldable pub writtenText : ℕ → ℕ → List ℕ
 writtenText bit k = cond (eqb bit 0) [] (component k ∷ [])
 
+-- 'the written components in the order xyzw, `_` if none'; x is 8, y 4, z 2, w 1
 unfoldable pub maskText : ℕ → List ℕ
 maskText m =
     cond (eqb (m % 16) 0) (bytes "_") (writtenText (m / 8 % 2) 0 ++ writtenText (m / 4 % 2) 1 ++ writtenText (m / 2 % 2) 2 ++ writtenText (m % 2) 3)
 
 -- 'Destination: o0-o15 or r0-r15 (numbers 10h up), `a0` for MOVA'
-unfoldable pub placeText : ℕ → ℕ → List ℕ
-placeText op n = cond (eqb op 0x12) (lettered (code "a") 0) (cond (ltb n 0x10) (lettered (code "o") n) (lettered (code "r") (n - 0x10)))
+unfoldable pub writtenRegister : ℕ → ℕ → List ℕ
+writtenRegister op n = cond (eqb op 0x12) (lettered (code "a") 0) (cond (ltb n 0x10) (lettered (code "o") n) (lettered (code "r") (n - 0x10)))
 
 unfoldable pub destinationText : ℕ → ℕ → ℕ → List ℕ
-destinationText op n m = placeText op n ++ bytes "." ++ maskText m
+destinationText op n m = writtenRegister op n ++ bytes "." ++ maskText m

@@ -6,7 +6,7 @@ ghost use lib.ListN.{length};
 ghost use Rattle.instruction.specs.Words.{numberOf, decodeOf};
 ghost use Rattle.text.specs.Pieces.{nameText};
 ghost use Rattle.text.specs.Put.{Put};
-ghost use Rattle.text.specs.Records.{recordOf, operationText, lineText, entryText, countsText, reportText, refusedText};
+ghost use Rattle.text.specs.Records.{recordOf, operationText, lineText, headText, countsText, reportText, refusedText};
 use crate::operands::put_operands;
 use crate::piece::put_byte;
 use crate::piece::put_digits;
@@ -88,9 +88,9 @@ pub fn listing_line(index: u32, word: u32, descriptors: &[u32]) -> [u8; 80]
 }
 
 // What an executable is.
-fn put_entry(out: &mut [u8], at: usize, index: u32, r: Report) -> usize
+fn put_head(out: &mut [u8], at: usize, index: u32, r: Report) -> usize
     requires { ⌜ at + 32 ≤ length (now out) ⌝ }
-    ensures { λ n. ⌜ Put (entryText index r) 32 at n (now (out .entry)) (now (out .exit)) ⌝ }
+    ensures { λ n. ⌜ Put (headText index r) 32 at n (now (out .entry)) (now (out .exit)) ⌝ }
 {
     let at1 = put_labelled(out, at, b"exe ", index, 2);
     let at2 = put_labelled(out, at1, b" type ", r.shader_type as u32, 1);
@@ -115,7 +115,7 @@ pub fn report_line(index: u32, r: Report) -> [u8; 80]
     ensures { λ l. ⌜ l ≡ recordOf 80 (reportText index r) ⌝ }
 {
     let mut out = blank();
-    let at1 = put_entry(&mut out, 0, index, r);
+    let at1 = put_head(&mut out, 0, index, r);
     put_counts(&mut out, at1, r);
     out
 }

@@ -4,7 +4,7 @@ ghost use mathlib.Core.List.{[], _∷_};
 ghost use Prim.Native.Nat.{_+_, _≤_, _<_};
 ghost use lib.ListN.{length};
 ghost use Rattle.text.specs.Put.{Put};
-ghost use Rattle.text.specs.Registers.{component, registerText, signText, indexText, selectorsText, sourceText, writtenText, maskText, placeText, destinationText};
+ghost use Rattle.text.specs.Registers.{component, registerText, signText, indexText, selectorsText, sourceText, writtenText, maskText, writtenRegister, destinationText};
 use crate::piece::put_byte;
 use crate::piece::put_lettered;
 use crate::piece::put_text;
@@ -105,9 +105,9 @@ fn put_mask(out: &mut [u8], at: usize, mask: u32) -> usize
 }
 
 // What is written: MOVA writes the address register.
-fn put_place(out: &mut [u8], at: usize, op: u32, register: u32) -> usize
+fn put_written_register(out: &mut [u8], at: usize, op: u32, register: u32) -> usize
     requires { ⌜ at + 3 ≤ length (now out) ⌝ }
-    ensures { λ r. ⌜ Put (placeText op register) 3 at r (now (out .entry)) (now (out .exit)) ⌝ }
+    ensures { λ r. ⌜ Put (writtenRegister op register) 3 at r (now (out .entry)) (now (out .exit)) ⌝ }
 {
     if op == 0x12 {
         return put_lettered(out, at, b'a', 0);
@@ -122,7 +122,7 @@ pub(crate) fn put_destination(out: &mut [u8], at: usize, op: u32, register: u32,
     requires { ⌜ at + 8 ≤ length (now out) ⌝ }
     ensures { λ r. ⌜ Put (destinationText op register mask) 8 at r (now (out .entry)) (now (out .exit)) ⌝ }
 {
-    let at1 = put_place(out, at, op, register);
+    let at1 = put_written_register(out, at, op, register);
     let at2 = put_byte(out, at1, b'.');
     put_mask(out, at2, mask)
 }

@@ -46,11 +46,11 @@ mul-report-line c = let t = taken (c .before .before .before .before .before .be
 array-copy-out-report-line : tie.Need-array-copy-out-report-line Inv-loop μ-loop
 array-copy-out-report-line c = let t = taken (c .before .before .before .before .before .before .before .before .before .before .before .args .file .now) (verdict-is (c .before .before .before .before .before .before .before .before .before .before .before .args .file .now) (c .before .before .before .before .before .before .before .before .judge .result) (c .before .before .before .before .before .before .before .before .judge .ensures .0)) (c .before .before .before .before .before .before .verdict .given .1) in omega (arith, t .executables, c .loop-test .taken)
 
-mul-at : tie.Need-mul-at Inv-loop μ-loop
-mul-at c = let t = taken (c .before .before .before .before .before .before .before .before .before .before .before .before .before .args .file .now) (verdict-is (c .before .before .before .before .before .before .before .before .before .before .before .before .before .args .file .now) (c .before .before .before .before .before .before .before .before .before .before .judge .result) (c .before .before .before .before .before .before .before .before .before .before .judge .ensures .0)) (c .before .before .before .before .before .before .before .before .verdict .given .1) in omega (arith, t .executables, c .before .before .loop-test .taken)
+mul-from : tie.Need-mul-from Inv-loop μ-loop
+mul-from c = let t = taken (c .before .before .before .before .before .before .before .before .before .before .before .before .before .args .file .now) (verdict-is (c .before .before .before .before .before .before .before .before .before .before .before .before .before .args .file .now) (c .before .before .before .before .before .before .before .before .before .before .judge .result) (c .before .before .before .before .before .before .before .before .before .before .judge .ensures .0)) (c .before .before .before .before .before .before .before .before .verdict .given .1) in omega (arith, t .executables, c .before .before .loop-test .taken)
 
-add-end : tie.Need-add-end Inv-loop μ-loop
-add-end c = let t = taken (c .before .before .before .before .before .before .before .before .before .before .before .before .before .args .file .now) (verdict-is (c .before .before .before .before .before .before .before .before .before .before .before .before .before .args .file .now) (c .before .before .before .before .before .before .before .before .before .before .judge .result) (c .before .before .before .before .before .before .before .before .before .before .judge .ensures .0)) (c .before .before .before .before .before .before .before .before .verdict .given .1) in omega (arith, t .executables, c .before .before .loop-test .taken)
+add-to : tie.Need-add-to Inv-loop μ-loop
+add-to c = let t = taken (c .before .before .before .before .before .before .before .before .before .before .before .before .before .args .file .now) (verdict-is (c .before .before .before .before .before .before .before .before .before .before .before .before .before .args .file .now) (c .before .before .before .before .before .before .before .before .before .before .judge .result) (c .before .before .before .before .before .before .before .before .before .before .judge .ensures .0)) (c .before .before .before .before .before .before .before .before .verdict .given .1) in omega (arith, t .executables, c .before .before .loop-test .taken)
 
 part-write-line-end : tie.Need-part-write-line-end Inv-loop μ-loop
 part-write-line-end c =
@@ -111,8 +111,8 @@ summarize-spec =
     mul-report-line
     array-copy-out-report-line
     (λ c κs. search needs)
-    mul-at
-    add-end
+    mul-from
+    add-to
     (λ c. search needs)
     (λ c. search needs)
     part-write-line-end

@@ -12,7 +12,7 @@ unfolding reportText
 returns c =
     let c2 = c .before in
     let c1 = c2 .before .before .before in
-    recorded 79 (c1 .before .before .blank .ensures) (omega arith) (c1 .put-entry .ensures then c2 .put-counts .ensures)
+    recorded 79 (c1 .before .before .blank .ensures) (omega arith) (c1 .put-head .ensures then c2 .put-counts .ensures)
 
 pub report-line-spec : {M : Type 1} → statement M
 report-line-spec = tie.close (tie.spec (λ c κs. search needs) (λ c. search needs) (λ c κs. search needs) (λ c. search needs) (λ c κs. search needs) returns)

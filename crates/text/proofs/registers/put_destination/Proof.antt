@@ -11,7 +11,7 @@ returns c =
     let k3 = c .before .before in
     let k2 = k3 .before .before .before .before in
     let k1 = k2 .before .before .before .before in
-    k1 .put-place .ensures then k2 .put-byte .ensures then k3 .put-mask .ensures
+    k1 .put-written-register .ensures then k2 .put-byte .ensures then k3 .put-mask .ensures
 
 pub put-destination-spec : {M : Type 1} → statement M
 put-destination-spec =

@@ -1,12 +1,12 @@
--- `record::put_entry` meets its contract. Assumes nothing.
+-- `record::put_head` meets its contract. Assumes nothing.
 use borrow.Author.Needs.{needs}
-use Rattle.text.specs.Records.{entryText}
+use Rattle.text.specs.Records.{headText}
 use Rattle.text.proofs.Putting.{_then_}
-use Rattle.text.proofs.record.put_entry.Statement.{statement}
-use Rattle.text.proofs.record.put_entry.Tie as tie
+use Rattle.text.proofs.record.put_head.Statement.{statement}
+use Rattle.text.proofs.record.put_head.Tie as tie
 
 returns : tie.Need-returns
-unfolding entryText
+unfolding headText
 returns c =
     let c4 = c .before .before in
     let c3 = c4 .before .before .before .before .before in
@@ -14,8 +14,8 @@ returns c =
     let c1 = c2 .before .before .before .before .before .before in
     c1 .put-labelled .ensures then c2 .put-labelled2 .ensures then c3 .put-labelled3 .ensures then c4 .put-labelled4 .ensures
 
-pub put-entry-spec : {M : Type 1} → statement M
-put-entry-spec =
+pub put-head-spec : {M : Type 1} → statement M
+put-head-spec =
     tie.close
     (tie.spec
     (λ c. search needs)
