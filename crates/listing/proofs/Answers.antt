@@ -5,11 +5,11 @@ use Prim.Native.Nat.{ℕ, _+_, _*_, _≤_, _<_}
 use native.Mathlib.Omega.{arith}
 use lib.ListN.{length, take, getD}
 use lib.Seq.{sets}
-use borrow.Author.Tests.{lt-ltb, le-ltb}
 use Rattle.answer.specs.Answers.{Answer, given, refused}
 use Rattle.container.specs.Program.{countOf, programOf}
 use Rattle.container.specs.declared.placement.Table.{Table}
 use Rattle.listing.specs.Listing.{descriptorAt, descriptorsOf, recordsOf, lineAt, summaryAt, room, writes, listIn, linesIn, listAnswer, listedBytes, summaryIn, summariesIn, summaryAnswer, summaryBytes}
+use Rattle.listing.proofs.Laws.{too-short, enough}
 use Rattle.text.proofs.Fits.{record-length, line-fits, report-fits}
 use Rattle.text.specs.Records.{recordOf, lineText, reportText}
 use Rattle.verifier.proofs.Answers.{exactly}
@@ -74,13 +74,13 @@ module _ (file : List ℕ) where
 
     pub list-short : {l : Library} → Taken l → length old < l .program .words .count * 80 → (refused 30 0 ≡ listAnswer file (length old)) × (old ≡ listedBytes file old)
     unfolding listAnswer listedBytes
-    list-short t h = (rw (t .answer, lt-ltb _ _ h), rw (t .answer, lt-ltb _ _ h))
+    list-short t h = (rw (t .answer, too-short _ _ h), rw (t .answer, too-short _ _ h))
 
     pub list-done : {l : Library} {out : List ℕ} → Taken l → l .program .words .count * 80 ≤ length old
         → out ≡ sets old 0 (recordsOf (lineAt file (l .program)) (l .program .words .count))
         → (given (l .program .words .count * 80) ≡ listAnswer file (length old)) × (out ≡ listedBytes file old)
     unfolding listAnswer listedBytes
-    list-done t h e = (rw (t .answer, le-ltb _ _ h), rw (t .answer, le-ltb _ _ h) e)
+    list-done t h e = (rw (t .answer, enough _ _ h), rw (t .answer, enough _ _ h) e)
 
     pub summary-refused : {r : Checked} {n q : ℕ} → checkedAs r ≡ checkOf file → r ≡ Refused n q → (refused n q ≡ summaryAnswer file (length old)) × (old ≡ summaryBytes file old)
     unfolding summaryAnswer summaryBytes
@@ -88,7 +88,7 @@ module _ (file : List ℕ) where
 
     pub summary-short : {l : Library} → Taken l → length old < l .executables * 80 → (refused 30 0 ≡ summaryAnswer file (length old)) × (old ≡ summaryBytes file old)
     unfolding summaryAnswer summaryBytes
-    summary-short t h = (rw (t .answer, lt-ltb _ _ h), rw (t .answer, lt-ltb _ _ h))
+    summary-short t h = (rw (t .answer, too-short _ _ h), rw (t .answer, too-short _ _ h))
 
     pub summary-done : {l : Library} {out : List ℕ} → Taken l → l .executables * 80 ≤ length old
         → out ≡ sets old 0 (recordsOf (summaryAt file (programOf file)) (l .executables))
@@ -96,7 +96,7 @@ module _ (file : List ℕ) where
     unfolding summaryAnswer summaryBytes
     summary-done t h e =
         let q = ap (λ x. x .program) (t .same) in
-        (rw (t .answer, le-ltb _ _ h), rw (t .answer, le-ltb _ _ h, q) e)
+        (rw (t .answer, enough _ _ h), rw (t .answer, enough _ _ h, q) e)
 
   -- the descriptors that are passed on
   pub descriptors-are : (t : Table) {all : List ℕ} → all ≡ filled (descriptorAt file t) 0 128 (t .count) 0 → take (t .count) all ≡ descriptorsOf file t

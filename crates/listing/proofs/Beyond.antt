@@ -7,11 +7,11 @@ use native.Mathlib.Omega.{arith}
 use lib.Dec.{ltb}
 use lib.ListN.{length, take, drop, length-drop}
 use lib.Seq.{sets, sets-eq, take-all, take-append-le, drop-append-le, drop-at}
-use borrow.Author.Tests.{le-ltb, ltb-true, ltb-false}
+use borrow.Author.Tests.{ltb-true, ltb-false}
 use Rattle.answer.specs.Answers.{given}
 use Rattle.listing.specs.Listing.{recordsOf, lineAt, summaryAt, listAnswer, listedBytes, summaryAnswer, summaryBytes}
 use Rattle.listing.proofs.Answers.{line-wide, report-wide}
-use Rattle.listing.proofs.Laws.{records-length}
+use Rattle.listing.proofs.Laws.{enough, records-length}
 use Rattle.verifier.specs.Verdict.{checkOf}
 use Rattle.verifier.specs.declared.verdict.Library.{Library}
 
@@ -48,14 +48,14 @@ module _ (file old : List ℕ) {l : Library} (accepted : checkOf file ≡ given 
       → (listAnswer file (length old) ≡ given (words * 80)) × (listedBytes file old ≡ recordsOf (lineAt file (l .program)) words ++ drop (words * 80) old)
   unfolding listAnswer listedBytes
   listed h = (
-    rw (accepted, le-ltb (length old) (words * 80) h),
-    rw (accepted, le-ltb (length old) (words * 80) h) (stored (lineAt file (l .program)) (λ i. line-wide i _ _) words old h),
+    rw (accepted, enough (length old) words h),
+    rw (accepted, enough (length old) words h) (stored (lineAt file (l .program)) (λ i. line-wide i _ _) words old h),
   )
 
   pub summarized : l .executables * 80 ≤ length old
       → (summaryAnswer file (length old) ≡ given (l .executables * 80)) × (summaryBytes file old ≡ recordsOf (summaryAt file (l .program)) (l .executables) ++ drop (l .executables * 80) old)
   unfolding summaryAnswer summaryBytes
   summarized h = (
-    rw (accepted, le-ltb (length old) (l .executables * 80) h),
-    rw (accepted, le-ltb (length old) (l .executables * 80) h) (stored (summaryAt file (l .program)) (λ i. report-wide i _) (l .executables) old h),
+    rw (accepted, enough (length old) (l .executables) h),
+    rw (accepted, enough (length old) (l .executables) h) (stored (summaryAt file (l .program)) (λ i. report-wide i _) (l .executables) old h),
   )

@@ -1,15 +1,18 @@
 -- Laws of reading from a part of the file, and of records written one after another. Assumes nothing.
 use mathlib.Core.Path.{_≡_, refl, sym, ap, _∙_}
+use mathlib.Core.Bool.{cond}
 use mathlib.Core.List.{List, [], _∷_, _++_, append-assoc}
 use Prim.Native.Nat.{ℕ, zero, suc, _+_, _*_, _-_, _≤_, _<_}
 use native.Mathlib.Numerals.{add-one}
 use native.Mathlib.Omega.{arith}
 use lib.ListN.{length, getD, set, take, drop, length-append, length-drop}
 use lib.Seq.{sets, sets-eq, drop-drop, getD-drop, take-suc, take-suc-set, length-take-le}
+use borrow.Author.Tests.{lt-ltb, le-ltb}
 use borrow.Rule.Slice.PartMut.{putMid, postOf}
+use Rattle.answer.specs.Answers.{given, refused}
 use Rattle.binary.specs.Bytes.{u32At}
 use Rattle.container.specs.declared.placement.Table.{Table}
-use Rattle.listing.specs.Listing.{descriptorAt, recordsOf}
+use Rattle.listing.specs.Listing.{descriptorAt, recordsOf, room}
 use Rattle.text.proofs.Putting.{sets-append}
 use Rattle.verifier.specs.Lists.{filled}
 
@@ -24,6 +27,13 @@ u32-drop s at k =
 -- the descriptors, read from their table's start on
 pub descriptors-drop : (file : List ℕ) (t : Table) (n : ℕ) {rest : List ℕ} → rest ≡ drop (t .start .0) file → filled (λ k. u32At rest (k * 8)) 0 128 n 0 ≡ filled (descriptorAt file t) 0 128 n 0
 descriptors-drop file t n e = rw e (ap (λ (f : ℕ → ℕ). filled f 0 128 n 0) (λ i k. u32-drop file (t .start .0) (k * 8) i))
+
+-- a buffer that is too short for n records, and one that has room for them
+pub too-short : (size n : ℕ) → size < n * 80 → room size n ≡ refused 30 0
+too-short size n h = ap (λ b. cond b (refused 30 0) (given (n * 80))) (lt-ltb size (n * 80) h)
+
+pub enough : (size n : ℕ) → n * 80 ≤ size → room size n ≡ given (n * 80)
+enough size n h = ap (λ b. cond b (refused 30 0) (given (n * 80))) (le-ltb size (n * 80) h)
 
 -- one more byte of a line
 pub byte-next : (line part : List ℕ) (i : ℕ) → i < length part → i < length line → take i part ≡ take i line → take (i + 1) (set part i (getD line i 0)) ≡ take (i + 1) line
