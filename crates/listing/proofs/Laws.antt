@@ -1,4 +1,4 @@
--- Laws of reading from a part of the file, and of records written one after another. Assumes nothing.
+-- Laws of records written one after another. Assumes nothing.
 use mathlib.Core.Path.{_≡_, refl, sym, ap, _∙_}
 use mathlib.Core.Bool.{cond}
 use mathlib.Core.List.{List, [], _∷_, _++_, append-assoc}
@@ -6,27 +6,12 @@ use Prim.Native.Nat.{ℕ, zero, suc, _+_, _*_, _-_, _≤_, _<_}
 use native.Mathlib.Numerals.{add-one}
 use native.Mathlib.Omega.{arith}
 use lib.ListN.{length, getD, set, take, drop, length-append, length-drop}
-use lib.Seq.{sets, sets-eq, drop-drop, getD-drop, take-suc, take-suc-set, length-take-le}
+use lib.Seq.{sets, sets-eq, drop-drop, take-suc, take-suc-set, length-take-le}
 use borrow.Author.Tests.{lt-ltb, le-ltb}
 use borrow.Rule.Slice.PartMut.{putMid, postOf}
 use Rattle.answer.specs.Answers.{given, refused}
-use Rattle.binary.specs.Bytes.{u32At}
-use Rattle.container.specs.declared.placement.Table.{Table}
-use Rattle.listing.specs.Listing.{descriptorAt, recordsOf, room}
+use Rattle.listing.specs.Listing.{recordsOf, room}
 use Rattle.text.proofs.Putting.{sets-append}
-use Rattle.verifier.specs.Lists.{filled}
-
--- a number in the bytes from an offset on
-pub u32-drop : (s : List ℕ) (at k : ℕ) → u32At (drop at s) k ≡ u32At s (at + k)
-u32-drop s at k =
-    let a : at + (k + 1) ≡ at + k + 1 = omega arith in
-    let b : at + (k + 2) ≡ at + k + 2 = omega arith in
-    let c : at + (k + 2 + 1) ≡ at + k + 2 + 1 = omega arith in
-    rw (getD-drop at s k 0, getD-drop at s (k + 1) 0, getD-drop at s (k + 2) 0, getD-drop at s (k + 2 + 1) 0, a, b, c)
-
--- the descriptors, read from their table's start on
-pub descriptors-drop : (file : List ℕ) (t : Table) (n : ℕ) {rest : List ℕ} → rest ≡ drop (t .start .0) file → filled (λ k. u32At rest (k * 8)) 0 128 n 0 ≡ filled (descriptorAt file t) 0 128 n 0
-descriptors-drop file t n e = rw e (ap (λ (f : ℕ → ℕ). filled f 0 128 n 0) (λ i k. u32-drop file (t .start .0) (k * 8) i))
 
 -- a buffer that is too short for n records, and one that has room for them
 pub too-short : (size n : ℕ) → size < n * 80 → room size n ≡ refused 30 0

@@ -2,7 +2,7 @@
 use mathlib.Core.Path.{_≡_, refl, sym, ap, _∙_}
 use mathlib.Core.Bool.{Bool, true, false, cond}
 use mathlib.Core.List.{List}
-use Prim.Native.Nat.{ℕ, _+_, _*_, _-_, _≤_, _<_}
+use Prim.Native.Nat.{ℕ, _+_, _*_, _-_, _≤_, _<_, min}
 use native.Mathlib.Omega.{arith}
 use lib.Dec.{ltb}
 use lib.ListN.{length, getD, take, length-take}
@@ -19,7 +19,7 @@ use Rattle.verifier.specs.Inside.{refusedBy, judgedBy, Loaded}
 use Rattle.verifier.specs.Lists.{filled}
 use Rattle.verifier.specs.Promise.{AcceptsClean, Promised, Promises, PromisesAll}
 use Rattle.verifier.specs.Verdict.{fullLimits, libraryOf, wholeFault, answerBy, checkOf, reportsBy, judgeOf, reportIn, reportAnswer, checkedAs, judgedAs, reportedAs}
-use Rattle.verifier.specs.Words.{wordAt, wordsOf, wordsFault}
+use Rattle.verifier.specs.Words.{wordAt, wordsOf, loadedWords, wordsFault}
 use Rattle.verifier.specs.declared.verdict.Checked.{Checked}
 use Rattle.verifier.specs.declared.verdict.Checked.the-variants as checked
 use Rattle.verifier.specs.declared.verdict.Judged.{Judged}
@@ -94,15 +94,14 @@ module _ (file : List ℕ) where
 
   -- a library that has passed 1 to 8, its words loaded
   module _ {q : Program} (a : libraryFault fullLimits file ≡ Nothing) (b : q ≡ programOf file) where
-    pub words-fit : (q .words .count ≤ 512) × (q .words .start .0 + q .words .count * 4 ≤ length file)
-    words-fit =
-        let c = clean-library file a in
-        let (some, few, d) = c .no7 in
-        rw b (few, c .no8 .words (omega arith) .inside)
+    pub words-fit : q .words .count ≤ 512
+    words-fit = let (some, few, d) = clean-library file a .no7 in rw b few
 
-    module _ {all : List ℕ} (d : all ≡ filled (wordAt file (q .words)) 0 512 (q .words .count) 0) where
+    module _ {all : List ℕ} (d : all ≡ loadedWords file (q .words)) where
       pub loaded-words : take (q .words .count) all ≡ wordsOf file (q .words)
-      loaded-words = rw d (take-filled (wordAt file (q .words)) 0 512 0 (q .words .count))
+      loaded-words =
+          let n : min (q .words .count) 512 ≡ q .words .count = omega (arith, words-fit) in
+          rw (d, n) (take-filled (wordAt file (q .words)) 0 512 0 (q .words .count))
 
       pub loaded-length : length (take (q .words .count) all) ≡ q .words .count
       loaded-length = ap length loaded-words ∙ length-list (wordAt file (q .words)) 0 (q .words .count)

@@ -1,17 +1,13 @@
 -- Laws of lists that are filled from their start on. Assumes nothing.
 use mathlib.Core.Path.{_≡_, refl, sym, ap, _∙_}
 use mathlib.Core.List.{List, [], _∷_, _++_, append-assoc}
-use Prim.Native.Nat.{ℕ, zero, suc, _+_, _-_, _≤_, _<_}
+use Prim.Native.Nat.{ℕ, zero, suc, _+_, _*_, _-_, _≤_, _<_}
 use native.Mathlib.Numerals.{add-one}
 use native.Mathlib.Omega.{arith}
-use lib.ListN.{length, getD, set, take, replicate, List·getD-append}
-use lib.Seq.{set-at, take-at}
-use Rattle.binary.specs.Addresses.{wordAddress, offsetOfWord}
+use lib.ListN.{length, getD, set, take, drop, replicate, List·getD-append}
+use lib.Seq.{set-at, take-at, getD-drop}
 use Rattle.binary.specs.Bytes.{u32At}
-use Rattle.binary.specs.declared.ByteOffset.{ByteOffset}
-use Rattle.container.specs.declared.placement.Table.{Table}
 use Rattle.verifier.specs.Lists.{listOf, filled}
-use Rattle.verifier.specs.Words.{wordAt}
 
 module _ {A : Type 0} (f : ℕ → A) where
   pub length-list : (i n : ℕ) → length (listOf f i n) ≡ n
@@ -60,10 +56,14 @@ module _ {A : Type 0} (f : ℕ → A) where
     pub filled-at : (n k : ℕ) (d : A) → k < n → getD (filled f i m n z) k d ≡ f (i + k)
     filled-at n k d h = List·getD-append (listOf f i n) (replicate (m - n) z) d k (omega (arith, length-list i n)) ∙ list-at i n k d h
 
--- one more word of the opcode table
-pub word-next : (file : List ℕ) (t : Table) (p : ℕ) {l : List ℕ} {o : ByteOffset} {w : ℕ} → p < 512
-    → l ≡ filled (wordAt file t) 0 512 p 0 → o ≡ offsetOfWord (wordAddress p) → w ≡ u32At file (t .start .0 + o .0)
-    → set l p w ≡ filled (wordAt file t) 0 512 (p + 1) 0
-word-next file t p h e o r =
-    let z : 0 + p ≡ p = omega arith in
-    rw (e, r, o) (rw z at (filled-next (wordAt file t) 0 512 0 p h))
+-- numbers of 32 bits, size bytes apart, read from a table's start on
+pub u32-drop : (s : List ℕ) (at k : ℕ) → u32At (drop at s) k ≡ u32At s (at + k)
+u32-drop s at k =
+    let a : at + (k + 1) ≡ at + k + 1 = omega arith in
+    let b : at + (k + 2) ≡ at + k + 2 = omega arith in
+    let c : at + (k + 2 + 1) ≡ at + k + 2 + 1 = omega arith in
+    rw (getD-drop at s k 0, getD-drop at s (k + 1) 0, getD-drop at s (k + 2) 0, getD-drop at s (k + 2 + 1) 0, a, b, c)
+
+pub table-drop : (file : List ℕ) (at size m n : ℕ) {rest : List ℕ} → rest ≡ drop at file
+    → filled (λ k. u32At rest (k * size)) 0 m n 0 ≡ filled (λ k. u32At file (at + k * size)) 0 m n 0
+table-drop file at size m n e = rw e (ap (λ (f : ℕ → ℕ). filled f 0 m n 0) (λ i k. u32-drop file at (k * size) i))

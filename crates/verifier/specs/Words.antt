@@ -1,6 +1,6 @@
 -- The words of a library, and refusals 9 to 12 (document 01, 'Numbers given back').
 -- Assumes nothing.
-use Prim.Native.Nat.{ℕ, _+_}
+use Prim.Native.Nat.{ℕ, _+_, min}
 use mathlib.Core.Bool.{Bool, true, false, _||_}
 use mathlib.Core.List.{List}
 use lib.Dec.{leb, ltb}
@@ -18,7 +18,7 @@ use Rattle.instruction.specs.declared.operand.CompareOperators.{CompareOperator
 use Rattle.instruction.specs.declared.operand.CompareOperators.the-variants.{Compares, None}
 use Rattle.instruction.specs.declared.operand.DescriptorId.{DescriptorId}
 use Rattle.instruction.specs.declared.operand.DescriptorId.the-variants.{Id, Unused}
-use Rattle.verifier.specs.Lists.{listOf}
+use Rattle.verifier.specs.Lists.{listOf, filled}
 
 -- word p of the opcode table
 abbrev pub wordAt : List ℕ → Table → ℕ → ℕ
@@ -27,6 +27,10 @@ wordAt file words p = u32At file (words .start .0 + offsetOfWord (wordAddress p)
 -- all its words
 abbrev pub wordsOf : List ℕ → Table → List ℕ
 wordsOf file words = listOf (wordAt file words) 0 (words .count)
+
+-- the same in an array of 512: of more the first, and after fewer zeros. 7 refuses more
+abbrev pub loadedWords : List ℕ → Table → List ℕ
+loadedWords file words = filled (wordAt file words) 0 512 (min (words .count) 512) 0
 
 -- 9: unknown opcode
 abbrev pub isUnknown : Control → Bool

@@ -11,3 +11,4 @@ pub use verdict::Reported;
 pub use verdict::check;
 pub use verdict::judge;
 pub use verdict::report_of;
+pub use words::words_of;

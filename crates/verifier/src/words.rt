@@ -1,13 +1,12 @@
 // The words of a library: refusals 9 to 12.
 ghost use mathlib.Core.Path.{_≡_};
-ghost use Prim.Native.Nat.{_+_, _*_, _≤_};
+ghost use Prim.Native.Nat.{_≤_, min};
 ghost use lib.ListN.{length};
-ghost use Rattle.verifier.specs.Lists.{filled};
-ghost use Rattle.verifier.specs.Words.{wordAt, isUnknown, badOperators, undescribed, badRegister, wordFault, wordsFault};
+ghost use Rattle.verifier.specs.Words.{loadedWords, isUnknown, badOperators, undescribed, badRegister, wordFault, wordsFault};
 use answer::Fault;
-use binary::ByteOffset;
 use binary::WordAddress;
 use binary::offset_of_word;
+use binary::tail;
 use binary::u32_at;
 use container::Table;
 use instruction::CompareOperators;
@@ -17,17 +16,22 @@ use instruction::compare_operators_of;
 use instruction::control_of;
 use instruction::descriptor_of;
 
-// The words of the opcode table, and zeros after them.
-pub(crate) fn words_of(file: &[u8], table: Table) -> [u32; 512]
-    requires { ⌜ (table .count ≤ 512) × (table .start .0 + table .count * 4 ≤ length (now file)) ⌝ }
-    ensures { λ r. ⌜ r ≡ filled (wordAt (now (file .entry)) table) 0 512 (table .count) 0 ⌝ }
+fn least(a: u32, b: u32) -> u32
+    ensures { λ r. ⌜ r ≡ min a b ⌝ }
 {
-    let start = table.start.0;
+    if a < b { a } else { b }
+}
+
+// The words of the opcode table in an array: of more than 512 the first, and after fewer zeros.
+pub fn words_of(file: &[u8], table: Table) -> [u32; 512]
+    ensures { λ r. ⌜ r ≡ loadedWords (now (file .entry)) table ⌝ }
+{
+    let start = table.start;
+    let bytes = tail(file, start);
     let mut words = [0u32; 512];
-    for p in 0..table.count {
-        let at = start + offset_of_word(WordAddress(p)).0;
+    for p in 0..least(table.count, 512) {
         let i = p as usize;
-        words[i] = u32_at(file, ByteOffset(at));
+        words[i] = u32_at(bytes, offset_of_word(WordAddress(p)));
     }
     words
 }

@@ -4,10 +4,9 @@ use Prim.Native.Nat.{ℕ, _+_, _*_, _-_, _≤_, _<_}
 use native.Mathlib.Omega.{arith}
 use borrow.Author.Needs.{needs}
 use Rattle.binary.specs.Bytes.{u32At}
-use Rattle.listing.proofs.Laws.{descriptors-drop}
 use Rattle.listing.proofs.descriptors_of.Statement.{statement}
 use Rattle.listing.proofs.descriptors_of.Tie as tie
-use Rattle.verifier.proofs.Lists.{filled-none, filled-next}
+use Rattle.verifier.proofs.Lists.{filled-none, filled-next, table-drop}
 use Rattle.verifier.specs.Lists.{filled}
 
 abbrev Inv-loop : tie.InvT-loop
@@ -31,7 +30,7 @@ returns c =
     let k = c .before in
     let s = k .before .before .before .before in
     let all : k .loop .p ≡ s .args .table .count = omega arith in
-    rw all at (k .loop .inv .1) ∙ descriptors-drop (s .args .file .now) (s .args .table) (s .args .table .count) (k .before .tail .ensures)
+    rw all at (k .loop .inv .1) ∙ table-drop (s .args .file .now) (s .args .table .start .0) 8 128 (s .args .table .count) (k .before .tail .ensures)
 
 pub descriptors-of-spec : {M : Type 1} → statement M
 descriptors-of-spec =

@@ -2,9 +2,9 @@
 use mathlib.Core.Path.{_≡_, _∙_}
 use Prim.Native.Nat.{_*_}
 use borrow.Author.Needs.{needs}
-use Rattle.listing.proofs.Laws.{u32-drop}
 use Rattle.listing.proofs.word_at.Statement.{statement}
 use Rattle.listing.proofs.word_at.Tie as tie
+use Rattle.verifier.proofs.Lists.{u32-drop}
 
 returns : tie.Need-returns
 returns c =

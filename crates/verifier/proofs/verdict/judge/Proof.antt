@@ -11,11 +11,6 @@ returns c =
     let k = c .before .before .before .before in
     refused-by-library (k .before .before .args .file .now) (sym (k .library-fault .ensures) ∙ c .before .before .number .given .1) (c .refused .ensures)
 
-words-of-requires : tie.Need-words-of-requires
-words-of-requires c κs =
-    let k = c .before .before .before in
-    words-fit (k .before .before .before .before .args .file .now) (sym (k .before .before .library-fault .ensures) ∙ k .enum-told .given .1) (c .before .before .program-of .ensures)
-
 array-share-prefix-loaded : tie.Need-array-share-prefix-loaded
 array-share-prefix-loaded c =
     let k = c .before .before .before .before in
@@ -32,7 +27,7 @@ words-fault-requires c κs =
     let a = sym (k .before .before .library-fault .ensures) ∙ k .enum-told .given .1 in
     let b = c .before .before .before .before .program-of .ensures in
     let file = k .before .before .before .before .args .file .now in
-    omega (arith, loaded-length file a b (c .before .words-of .ensures), words-fit file a b .0)
+    omega (arith, loaded-length file a b (c .before .words-of .ensures), words-fit file a b)
 
 returns-2 : tie.Need-returns-2
 returns-2 c =
@@ -68,7 +63,7 @@ judge-spec =
     (λ c κs. search needs)
     (λ c κs. search needs)
     (λ c. search needs)
-    words-of-requires
+    (λ c κs. search needs)
     array-share-prefix-loaded
     slice-aggregate-words
     words-fault-requires
