@@ -12,8 +12,8 @@ use Rattle.listing.specs.Listing.{descriptorAt, descriptorsOf, recordsOf
 use Rattle.listing.proofs.Laws.{too-short, enough}
 use Rattle.text.proofs.Fits.{record-length, line-fits, report-fits}
 use Rattle.text.specs.Records.{recordOf, lineText, reportText}
-use Rattle.verifier.proofs.Answers.{exactly}
 use Rattle.verifier.proofs.Clean.{accepted}
+use Rattle.verifier.proofs.Taken.{Taken, refused-check}
 use Rattle.verifier.proofs.Lists.{length-list, take-filled, filled-at}
 use Rattle.verifier.specs.Clean.{Clean}
 use Rattle.verifier.specs.Executables.{noReport, reportOf}
@@ -35,48 +35,17 @@ pub report-wide : (i : ℕ) (r : Report) → length (recordOf 80 (reportText i r
 report-wide i r = record-length 79 (reportText i r) (report-fits i r)
 
 module _ (file : List ℕ) where
-  -- an accepted library: the check's answer, and its sizes
-  pub record Taken (l : Library) : Type 0 where
-    pub answer : checkOf file ≡ given l
-    pub clean : Clean file
-    pub words : l .program .words .count ≤ 512
-    pub descriptors : l .program .descriptors .count ≤ 128
-    pub executables : l .executables ≤ 16
-    pub same : l ≡ libraryOf file
-
-  pub taken : {r : Checked} {l : Library} → checkedAs r ≡ checkOf file → r ≡ Accepted l → Taken l
-  taken {r} {l} e h =
-      let x = exactly file {r = r} e in
-      let c = x .clean l h in
-      let (some, few, d) = c .library .no7 in
-      let (n, m) = c .library .no4 in
-      let q : l ≡ libraryOf file = inside (sym h ∙ x .accepted c) in
-      record {
-        answer = sym e ∙ ap checkedAs h;
-        clean = c;
-        words = rw q few;
-        descriptors = rw q d;
-        executables = rw q m;
-        same = q;
-      }
-    where
-      inside : {a b : Library} → Accepted a ≡ Accepted b → a ≡ b
-      inside p = cc
-
-  refused-check : {r : Checked} {n q : ℕ} → checkedAs r ≡ checkOf file → r ≡ Refused n q → checkOf file ≡ refused n q
-  refused-check e h = sym e ∙ ap checkedAs h
-
   -- the listing's answers: the check's refusal; a buffer that is too short; all lines
   module _ (old : List ℕ) where
     pub list-refused : {r : Checked} {n q : ℕ} → checkedAs r ≡ checkOf file → r ≡ Refused n q → (refused n q ≡ listAnswer file (length old)) × (old ≡ listedBytes file old)
     unfolding listAnswer listedBytes
-    list-refused e h = let a = refused-check e h in (rw a, rw a)
+    list-refused e h = let a = refused-check file e h in (rw a, rw a)
 
-    pub list-short : {l : Library} → Taken l → length old < l .program .words .count * 80 → (refused 30 0 ≡ listAnswer file (length old)) × (old ≡ listedBytes file old)
+    pub list-short : {l : Library} → Taken file l → length old < l .program .words .count * 80 → (refused 30 0 ≡ listAnswer file (length old)) × (old ≡ listedBytes file old)
     unfolding listAnswer listedBytes
     list-short t h = (rw (t .answer, too-short _ _ h), rw (t .answer, too-short _ _ h))
 
-    pub list-done : {l : Library} {out : List ℕ} → Taken l → l .program .words .count * 80 ≤ length old
+    pub list-done : {l : Library} {out : List ℕ} → Taken file l → l .program .words .count * 80 ≤ length old
         → out ≡ sets old 0 (recordsOf (lineAt file (l .program)) (l .program .words .count))
         → (given (l .program .words .count * 80) ≡ listAnswer file (length old)) × (out ≡ listedBytes file old)
     unfolding listAnswer listedBytes
@@ -84,13 +53,13 @@ module _ (file : List ℕ) where
 
     pub summary-refused : {r : Checked} {n q : ℕ} → checkedAs r ≡ checkOf file → r ≡ Refused n q → (refused n q ≡ summaryAnswer file (length old)) × (old ≡ summaryBytes file old)
     unfolding summaryAnswer summaryBytes
-    summary-refused e h = let a = refused-check e h in (rw a, rw a)
+    summary-refused e h = let a = refused-check file e h in (rw a, rw a)
 
-    pub summary-short : {l : Library} → Taken l → length old < l .executables * 80 → (refused 30 0 ≡ summaryAnswer file (length old)) × (old ≡ summaryBytes file old)
+    pub summary-short : {l : Library} → Taken file l → length old < l .executables * 80 → (refused 30 0 ≡ summaryAnswer file (length old)) × (old ≡ summaryBytes file old)
     unfolding summaryAnswer summaryBytes
     summary-short t h = (rw (t .answer, too-short _ _ h), rw (t .answer, too-short _ _ h))
 
-    pub summary-done : {l : Library} {out : List ℕ} → Taken l → l .executables * 80 ≤ length old
+    pub summary-done : {l : Library} {out : List ℕ} → Taken file l → l .executables * 80 ≤ length old
         → out ≡ sets old 0 (recordsOf (summaryAt file (programOf file)) (l .executables))
         → (given (l .executables * 80) ≡ summaryAnswer file (length old)) × (out ≡ summaryBytes file old)
     unfolding summaryAnswer summaryBytes
@@ -110,7 +79,7 @@ module _ (file : List ℕ) where
   unfolding judgeOf
   verdict-is j e = ap (λ x. x .verdict) e
 
-  pub report-is : (j : Judged) {l : Library} → judgedAs j ≡ judgeOf file → Taken l → (i : ℕ) (d : Report) → i < l .executables → getD (j .reports) i d ≡ reportOf file (programOf file) i
+  pub report-is : (j : Judged) {l : Library} → judgedAs j ≡ judgeOf file → Taken file l → (i : ℕ) (d : Report) → i < l .executables → getD (j .reports) i d ≡ reportOf file (programOf file) i
   unfolding judgeOf
   report-is j {l} e t i d h =
       let z : 0 + i ≡ i = omega arith in

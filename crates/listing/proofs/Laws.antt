@@ -11,7 +11,7 @@ use borrow.Author.Tests.{lt-ltb, le-ltb}
 use borrow.Rule.Slice.PartMut.{putMid, postOf}
 use Rattle.answer.specs.Answers.{given, refused}
 use Rattle.listing.specs.Listing.{recordsOf, room}
-use Rattle.text.proofs.Putting.{sets-append}
+use Rattle.verifier.proofs.Lists.{sets-append}
 
 -- a buffer that is too short for n records, and one that has room for them
 pub too-short : (size n : ℕ) → size < n * 80 → room size n ≡ refused 30 0

@@ -13,10 +13,7 @@ use lib.Seq.{sets, take-suc, take-take, take-at, take-length, drop-length, drop-
 use borrow.Author.Tests.{eq-eqb, ne-eqb}
 use Rattle.text.specs.Pieces.{digit, digits}
 use Rattle.text.specs.Put.{Put}
-
-pub sets-append : (p q l : List ℕ) (i : ℕ) → sets l i (p ++ q) ≡ sets (sets l i p) (i + length p) q
-sets-append [] q l i = rw (add-zero i)
-sets-append (b ∷ p) q l i = sets-append p q (set l i b) (suc i) ∙ rw (suc-add i (length p), add-suc i (length p))
+use Rattle.verifier.proofs.Lists.{sets-append}
 
 infixl 50 _then_
 -- one piece after another

@@ -6,3 +6,4 @@ pub mod Clean
 pub mod Promise
 pub mod Answers
 pub mod Trials
+pub mod Taken

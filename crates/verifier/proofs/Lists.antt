@@ -1,11 +1,12 @@
--- Laws of lists that are filled from their start on. Assumes nothing.
+-- Laws of lists that are filled from their start on, of tables of numbers, and of stores one after another. Assumes nothing.
 use mathlib.Core.Path.{_≡_, refl, sym, ap, _∙_}
 use mathlib.Core.List.{List, [], _∷_, _++_, append-assoc}
 use Prim.Native.Nat.{ℕ, zero, suc, _+_, _*_, _-_, _≤_, _<_}
+use native.Mathlib.Nat.{add-zero, add-suc, suc-add}
 use native.Mathlib.Numerals.{add-one}
 use native.Mathlib.Omega.{arith}
 use lib.ListN.{length, getD, set, take, drop, replicate, List·getD-append}
-use lib.Seq.{set-at, take-at, getD-drop}
+use lib.Seq.{sets, set-at, take-at, getD-drop}
 use Rattle.binary.specs.Bytes.{u32At}
 use Rattle.verifier.specs.Lists.{listOf, filled}
 
@@ -67,3 +68,8 @@ u32-drop s at k =
 pub table-drop : (file : List ℕ) (at size m n : ℕ) {rest : List ℕ} → rest ≡ drop at file
     → filled (λ k. u32At rest (k * size)) 0 m n 0 ≡ filled (λ k. u32At file (at + k * size)) 0 m n 0
 table-drop file at size m n e = rw e (ap (λ (f : ℕ → ℕ). filled f 0 m n 0) (λ i k. u32-drop file at (k * size) i))
+
+-- stores one after another
+pub sets-append : (p q l : List ℕ) (i : ℕ) → sets l i (p ++ q) ≡ sets (sets l i p) (i + length p) q
+sets-append [] q l i = rw (add-zero i)
+sets-append (b ∷ p) q l i = sets-append p q (set l i b) (suc i) ∙ rw (suc-add i (length p), add-suc i (length p))

@@ -8,10 +8,11 @@ use lib.Seq.{sets, length-sets}
 use borrow.Author.Needs.{needs}
 use Rattle.container.specs.declared.placement.Table.{Table}
 use Rattle.listing.specs.Listing.{recordsOf}
-use Rattle.listing.proofs.Answers.{line-wide, taken, list-refused, list-short, list-done, descriptors-are, descriptors-length}
+use Rattle.listing.proofs.Answers.{line-wide, list-refused, list-short, list-done, descriptors-are, descriptors-length}
 use Rattle.listing.proofs.Laws.{part-wide, record-next}
 use Rattle.listing.proofs.list.Statement.{statement}
 use Rattle.listing.proofs.list.Tie as tie
+use Rattle.verifier.proofs.Taken.{taken}
 use Rattle.text.specs.Records.{recordOf, lineText}
 use Rattle.verifier.specs.Words.{wordAt}
 

@@ -7,10 +7,11 @@ use lib.ListN.{length}
 use lib.Seq.{sets, length-sets}
 use borrow.Author.Needs.{needs}
 use Rattle.listing.specs.Listing.{recordsOf, summaryAt}
-use Rattle.listing.proofs.Answers.{report-wide, taken, summary-refused, summary-short, summary-done, verdict-is, report-is}
+use Rattle.listing.proofs.Answers.{report-wide, summary-refused, summary-short, summary-done, verdict-is, report-is}
 use Rattle.listing.proofs.Laws.{part-wide, record-next}
 use Rattle.listing.proofs.summarize.Statement.{statement}
 use Rattle.listing.proofs.summarize.Tie as tie
+use Rattle.verifier.proofs.Taken.{taken}
 use Rattle.text.specs.Records.{recordOf, reportText}
 use Rattle.verifier.specs.Executables.{noReport, reportOf}
 use Rattle.container.specs.Program.{programOf}
