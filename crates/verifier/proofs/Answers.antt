@@ -2,10 +2,10 @@
 use mathlib.Core.Path.{_≡_, refl, sym, ap, _∙_}
 use mathlib.Core.Bool.{Bool, true, false, cond}
 use mathlib.Core.List.{List}
-use Prim.Native.Nat.{ℕ, _+_, _*_, _-_, _≤_, _<_, min}
+use Prim.Native.Nat.{ℕ, _+_, _*_, _-_, _≤_, _<_}
 use native.Mathlib.Omega.{arith}
 use lib.Dec.{ltb}
-use lib.ListN.{length, getD, take, length-take}
+use lib.ListN.{length, getD, take}
 use borrow.Author.Tests.{lt-ltb, le-ltb}
 use Rattle.answer.specs.Answers.{Answer, given, refused}
 use Rattle.answer.specs.Faults.{orElse, firstIn}
@@ -19,7 +19,7 @@ use Rattle.verifier.specs.Inside.{refusedBy, judgedBy, Loaded}
 use Rattle.verifier.specs.Lists.{filled}
 use Rattle.verifier.specs.Promise.{AcceptsClean, Promised, Promises, PromisesAll}
 use Rattle.verifier.specs.Verdict.{fullLimits, libraryOf, wholeFault, answerBy, checkOf, reportsBy, judgeOf, reportIn, reportAnswer, checkedAs, judgedAs, reportedAs}
-use Rattle.verifier.specs.Words.{wordAt, wordsOf, loadedWords, wordsFault}
+use Rattle.verifier.specs.Words.{wordsOf, loadedWords, wordsFault}
 use Rattle.verifier.specs.declared.verdict.Checked.{Checked}
 use Rattle.verifier.specs.declared.verdict.Checked.the-variants as checked
 use Rattle.verifier.specs.declared.verdict.Judged.{Judged}
@@ -28,7 +28,7 @@ use Rattle.verifier.specs.declared.verdict.Report.{Report}
 use Rattle.verifier.specs.declared.verdict.Reported.{Reported}
 use Rattle.verifier.specs.declared.verdict.Reported.the-variants as reported
 use Rattle.verifier.proofs.Clean.{clean, accepted}
-use Rattle.verifier.proofs.Lists.{length-list, take-filled, filled-at}
+use Rattle.verifier.proofs.Lists.{loaded-words, filled-at}
 use Rattle.verifier.proofs.Placing.{clean-library}
 use Rattle.verifier.proofs.Promise.{promised}
 
@@ -98,22 +98,11 @@ module _ (file : List ℕ) where
     words-fit = let (some, few, d) = clean-library file a .no7 in rw b few
 
     module _ {all : List ℕ} (d : all ≡ loadedWords file (q .words)) where
-      pub loaded-words : take (q .words .count) all ≡ wordsOf file (q .words)
-      loaded-words =
-          let n : min (q .words .count) 512 ≡ q .words .count = omega (arith, words-fit) in
-          rw (d, n) (take-filled (wordAt file (q .words)) 0 512 0 (q .words .count))
-
-      pub loaded-length : length (take (q .words .count) all) ≡ q .words .count
-      loaded-length = ap length loaded-words ∙ length-list (wordAt file (q .words)) 0 (q .words .count)
-
-      pub loaded-enough : q .words .count ≤ length all
-      loaded-enough = omega (arith, loaded-length, length-take (q .words .count) all)
-
       pub loaded : (n : ℕ) → Loaded file (record { executables = n; program = q }) (take (q .words .count) all)
-      loaded n = record { passed = a; program = b; words = loaded-words }
+      loaded n = record { passed = a; program = b; words = loaded-words file (q .words) d words-fit }
 
       words-told : {r : Fault} → r ≡ wordsFault (q .descriptors .count) (take (q .words .count) all) → wordsFault (p .descriptors .count) (wordsOf file (p .words)) ≡ r
-      words-told f = sym (f ∙ ap (wordsFault (q .descriptors .count)) loaded-words ∙ rw b)
+      words-told f = sym (f ∙ ap (wordsFault (q .descriptors .count)) (loaded-words file (q .words) d words-fit) ∙ rw b)
 
       pub refused-by-words : {r : Fault} {j : Judged} {n k : ℕ} → r ≡ wordsFault (q .descriptors .count) (take (q .words .count) all) → r ≡ At n k
           → j ≡ refusedBy n k → (judgedAs j ≡ judgeOf file) × PromisesAll file j

@@ -1,14 +1,16 @@
 -- Laws of lists that are filled from their start on, of tables of numbers, and of stores one after another. Assumes nothing.
 use mathlib.Core.Path.{_≡_, refl, sym, ap, _∙_}
 use mathlib.Core.List.{List, [], _∷_, _++_, append-assoc}
-use Prim.Native.Nat.{ℕ, zero, suc, _+_, _*_, _-_, _≤_, _<_}
+use Prim.Native.Nat.{ℕ, zero, suc, _+_, _*_, _-_, _≤_, _<_, min}
 use native.Mathlib.Nat.{add-zero, add-suc, suc-add}
 use native.Mathlib.Numerals.{add-one}
 use native.Mathlib.Omega.{arith}
-use lib.ListN.{length, getD, set, take, drop, replicate, List·getD-append}
+use lib.ListN.{length, getD, set, take, drop, replicate, length-take, List·getD-append}
 use lib.Seq.{sets, set-at, take-at, getD-drop}
 use Rattle.binary.specs.Bytes.{u32At}
+use Rattle.container.specs.declared.placement.Table.{Table}
 use Rattle.verifier.specs.Lists.{listOf, filled}
+use Rattle.verifier.specs.Words.{wordAt, wordsOf, loadedWords}
 
 module _ {A : Type 0} (f : ℕ → A) where
   pub length-list : (i n : ℕ) → length (listOf f i n) ≡ n
@@ -68,6 +70,19 @@ u32-drop s at k =
 pub table-drop : (file : List ℕ) (at size m n : ℕ) {rest : List ℕ} → rest ≡ drop at file
     → filled (λ k. u32At rest (k * size)) 0 m n 0 ≡ filled (λ k. u32At file (at + k * size)) 0 m n 0
 table-drop file at size m n e = rw e (ap (λ (f : ℕ → ℕ). filled f 0 m n 0) (λ i k. u32-drop file at (k * size) i))
+
+-- the words of an opcode table that 7 lets pass, out of their array
+module _ (file : List ℕ) (t : Table) {all : List ℕ} (d : all ≡ loadedWords file t) (few : t .count ≤ 512) where
+  pub loaded-words : take (t .count) all ≡ wordsOf file t
+  loaded-words =
+      let n : min (t .count) 512 ≡ t .count = omega arith in
+      rw (d, n) (take-filled (wordAt file t) 0 512 0 (t .count))
+
+  pub loaded-length : length (take (t .count) all) ≡ t .count
+  loaded-length = ap length loaded-words ∙ length-list (wordAt file t) 0 (t .count)
+
+  pub loaded-enough : t .count ≤ length all
+  loaded-enough = omega (arith, loaded-length, length-take (t .count) all)
 
 -- stores one after another
 pub sets-append : (p q l : List ℕ) (i : ℕ) → sets l i (p ++ q) ≡ sets (sets l i p) (i + length p) q

@@ -2,7 +2,8 @@
 use mathlib.Core.Path.{_≡_, sym, _∙_}
 use native.Mathlib.Omega.{arith}
 use borrow.Author.Needs.{needs}
-use Rattle.verifier.proofs.Answers.{refused-by-library, words-fit, loaded-length, loaded-enough, loaded, refused-by-words, judged-executables, few-executables}
+use Rattle.verifier.proofs.Answers.{refused-by-library, words-fit, loaded, refused-by-words, judged-executables, few-executables}
+use Rattle.verifier.proofs.Lists.{loaded-length, loaded-enough}
 use Rattle.verifier.proofs.verdict.judge.Statement.{statement}
 use Rattle.verifier.proofs.verdict.judge.Tie as tie
 
@@ -14,12 +15,12 @@ returns c =
 array-share-prefix-loaded : tie.Need-array-share-prefix-loaded
 array-share-prefix-loaded c =
     let k = c .before .before .before .before in
-    loaded-enough (k .before .before .before .before .args .file .now) (sym (k .before .before .library-fault .ensures) ∙ k .enum-told .given .1) (c .before .before .before .program-of .ensures) (c .words-of .ensures)
+    loaded-enough (k .before .before .before .before .args .file .now) (c .before .before .before .program-of .result .words) (c .words-of .ensures) (words-fit (k .before .before .before .before .args .file .now) (sym (k .before .before .library-fault .ensures) ∙ k .enum-told .given .1) (c .before .before .before .program-of .ensures))
 
 slice-aggregate-words : tie.Need-slice-aggregate-words
 slice-aggregate-words c =
     let k = c .before .before .before .before .before in
-    sym (loaded-length (k .before .before .before .before .args .file .now) (sym (k .before .before .library-fault .ensures) ∙ k .enum-told .given .1) (c .before .before .before .before .program-of .ensures) (c .before .words-of .ensures))
+    sym (loaded-length (k .before .before .before .before .args .file .now) (c .before .before .before .before .program-of .result .words) (c .before .words-of .ensures) (words-fit (k .before .before .before .before .args .file .now) (sym (k .before .before .library-fault .ensures) ∙ k .enum-told .given .1) (c .before .before .before .before .program-of .ensures)))
 
 words-fault-requires : tie.Need-words-fault-requires
 words-fault-requires c κs =
@@ -27,7 +28,7 @@ words-fault-requires c κs =
     let a = sym (k .before .before .library-fault .ensures) ∙ k .enum-told .given .1 in
     let b = c .before .before .before .before .program-of .ensures in
     let file = k .before .before .before .before .args .file .now in
-    omega (arith, loaded-length file a b (c .before .words-of .ensures), words-fit file a b)
+    omega (arith, loaded-length file (c .before .before .before .before .program-of .result .words) (c .before .words-of .ensures) (words-fit file a b), words-fit file a b)
 
 returns-2 : tie.Need-returns-2
 returns-2 c =

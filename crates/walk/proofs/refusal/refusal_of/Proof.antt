@@ -1,0 +1,14 @@
+-- `refusal::refusal_of` meets its contract. Assumes nothing.
+use mathlib.Core.Path.{_≡_}
+use borrow.Author.Needs.{needs}
+use Rattle.walk.proofs.refusal.refusal_of.Statement.{statement}
+use Rattle.walk.proofs.refusal.refusal_of.Tie as tie
+
+returns : tie.Need-returns
+returns c = rw (c .before .verdict .given .1)
+
+returns-2 : tie.Need-returns-2
+returns-2 c = rw (c .enum-told .given .1)
+
+pub refusal-of-spec : {M : Type 1} → statement M
+refusal-of-spec = tie.close (tie.spec (λ c. search needs) (λ c. search needs) returns returns-2)
