@@ -6,7 +6,8 @@ use Prim.Native.Nat.{ℕ, _≤_, _<_}
 use lib.ListN.{getD}
 use Rattle.container.specs.Executable.{executableOf}
 use Rattle.container.specs.Program.{programOf}
-use Rattle.flow.specs.Stepping.{Settings, start}
+use Rattle.flow.specs.Rules.{Code}
+use Rattle.flow.specs.Stepping.{Settings, State, start}
 use Rattle.flow.specs.Visits.{total}
 use Rattle.flow.specs.WholeRun.{Whole}
 use Rattle.verifier.specs.Clean.{codeIn, visitsIn, Clean}
@@ -25,11 +26,18 @@ pub record AcceptsClean (file : List ℕ) (r : Checked) : Type 0 where
   pub clean : (l : Library) → r ≡ Accepted l → Clean file
   pub accepted : Clean file → r ≡ Accepted (libraryOf file)
 
+-- what an executable of a file runs, and where it starts
+abbrev pub codeFor : List ℕ → Code
+codeFor file = codeIn file (programOf file) (programOf file .descriptors .count)
+
+abbrev pub startFor : List ℕ → ℕ → State
+startFor file index = start (executableOf file index .main .0) (executableOf file index .endmain .0)
+
 -- a report of executable index: for all bools, all bytes x and every truth list the whole run stays inside the tables, with at most 4 calls, 8 IFs and 2 LOOPs open, and ends within the total;
 -- the total is at most 4,000,000, and is what the visits add to it
 pub record Promised (file : List ℕ) (index : ℕ) (t : Report) : Type 0 where
   pub runs : (v : Settings) → ((r : ℕ) → r ≤ 3 → v .ints r < 256)
-      → Whole (codeIn file (programOf file) (programOf file .descriptors .count)) v 4 8 2 (t .total) (start (executableOf file index .main .0) (executableOf file index .endmain .0))
+      → Whole (codeFor file) v 4 8 2 (t .total) (startFor file index)
   pub bounded : t .total ≤ 4000000
   pub counted : t .total ≡ total (visitsIn file (programOf file) (executableOf file index))
 

@@ -20,15 +20,15 @@ use Rattle.verifier.proofs.Clean.{accepted}
 use Rattle.verifier.proofs.Lists.{length-list}
 use Rattle.verifier.proofs.Promise.{promised}
 use Rattle.verifier.proofs.Taken.{Taken, refused-check}
-use Rattle.verifier.specs.Clean.{codeIn}
 use Rattle.verifier.specs.Executables.{reportOf}
+use Rattle.verifier.specs.Promise.{codeFor, startFor}
 use Rattle.verifier.specs.Verdict.{checkOf, checkedAs, libraryOf}
 use Rattle.verifier.specs.Words.{wordAt, wordsOf}
 use Rattle.verifier.specs.declared.verdict.Checked.{Checked}
 use Rattle.verifier.specs.declared.verdict.Checked.the-variants.{Accepted, Refused}
 use Rattle.verifier.specs.declared.verdict.Library.{Library}
 use Rattle.walk.specs.Inside.{refusalIn, Runs, fetchesBy}
-use Rattle.walk.specs.Walk.{settingsOf, runOf, wordsIn, fetchesIn, walkAnswer, stepsOf, fetchedIn, Ended, Ends, walkedAs}
+use Rattle.walk.specs.Walk.{settingsOf, runOf, fetchesIn, walkFetches, RunsWhole, stepsOf, writtenTo, walkedAs}
 use Rattle.walk.specs.declared.refusal.Refusal.{Refusal}
 use Rattle.walk.specs.declared.walking.Walked.{Walked}
 use Rattle.walk.specs.declared.walking.Walked.the-variants as walked
@@ -67,18 +67,18 @@ module _ (file : List ℕ) (index : ℕ) (bools ints truth : List ℕ) where
   -- what the contract says of an answer and a final list
   abbrev pub Told : Walked → List ℕ → List ℕ → Type 0
   Told r old list =
-      (walkedAs r ≡ stepsOf (walkAnswer file index bools ints truth)) × ((list ≡ fetchedIn (walkAnswer file index bools ints truth) old) × Ends file index bools ints truth r)
+      (walkedAs r ≡ stepsOf (walkFetches file index bools ints truth)) × ((list ≡ writtenTo old (walkFetches file index bools ints truth)) × RunsWhole file index bools ints truth r)
 
-  no-steps : {n q : ℕ} → Ends file index bools ints truth (walked.Refused n q)
+  no-steps : {n q : ℕ} → RunsWhole file index bools ints truth (walked.Refused n q)
   no-steps k h = absurd (let z : _≡_ {A = ℕ} 0 1 = cc in omega arith)
 
   pub walk-refused : {r : Checked} {f : Refusal} {n q : ℕ} (old : List ℕ) → checkedAs r ≡ checkOf file → r ≡ Refused n q → f ≡ refusalIn r → Told (walked.Refused (f .number) (f .place)) old old
-  unfolding walkAnswer
+  unfolding walkFetches
   walk-refused old c h f = let a = refused-check file c h in (rw (f, h, a), (rw a, no-steps))
 
   module _ {l : Library} (t : Taken file l) where
     pub walk-missing : (old : List ℕ) → l .executables ≤ index → Told (walked.Refused 29 0) old old
-    unfolding walkAnswer
+    unfolding walkFetches
     walk-missing old h = (rw (t .answer, le-ltb index (l .executables) h), (rw (t .answer, le-ltb index (l .executables) h), no-steps))
 
     module _ (there : index < l .executables) where
@@ -91,7 +91,7 @@ module _ (file : List ℕ) (index : ℕ) (bools ints truth : List ℕ) where
           either false = refl
 
       pub walk-short : (old : List ℕ) → (length bools < 16) ⊎ (length ints < 4) → Told (walked.Refused 30 0) old old
-      unfolding walkAnswer
+      unfolding walkFetches
       walk-short old h =
           (rw (t .answer, lt-ltb index (l .executables) there, short h), (rw (t .answer, lt-ltb index (l .executables) there, short h), no-steps))
 
@@ -100,7 +100,7 @@ module _ (file : List ℕ) (index : ℕ) (bools ints truth : List ℕ) where
         count-is : l .executables ≡ libraryOf file .executables
         count-is = ap (λ x. x .executables) (t .same)
 
-        whole : Whole (codeIn file (programOf file) (programOf file .descriptors .count)) v 4 8 2 (reportOf file (programOf file) index .total) (start m e)
+        whole : Whole (codeFor file) v 4 8 2 (reportOf file (programOf file) index .total) (startFor file index)
         whole = promised file (accepted file (t .clean)) index (omega (arith, count-is)) .runs v bytes
 
         bounded : reportOf file (programOf file) index .total ≤ 4000000
@@ -123,16 +123,12 @@ module _ (file : List ℕ) (index : ℕ) (bools ints truth : List ℕ) where
         unfolding fetchesBy runOf
         fetches = ap fetchesIn (sym (run-same ws v _ 4000000 (start m e)) ∙ longer _ v (reportOf file (programOf file) index .total) 4000000 (start m e) bounded (whole .ends) ∙ sym (whole .ends))
 
-        answer : 16 ≤ length bools → 4 ≤ length ints → walkAnswer file index bools ints truth ≡ given (fetchesIn (runOf file index v))
-        unfolding walkAnswer
+        answer : 16 ≤ length bools → 4 ≤ length ints → walkFetches file index bools ints truth ≡ given (fetchesIn (runOf file index v))
+        unfolding walkFetches
         answer b i = rw (t .answer, lt-ltb index (l .executables) there, le-ltb (length bools) 16 b, le-ltb (length ints) 4 i)
-
-        ended : runOf file index v ≡ done (whole .fetched)
-        unfolding runOf
-        ended = whole .ends
 
         pub walk-done : {words : List ℕ} {n : ℕ} {list : List ℕ} (old : List ℕ) → 16 ≤ length bools → 4 ≤ length ints → words ≡ ws
             → n ≡ length (fetchesBy words v m e) → list ≡ sets old 0 (fetchesBy words v m e) → Told (walked.Steps n) old list
         walk-done old b i w n k =
             let a = answer b i in
-            (rw (a, n, w, fetches), (rw (a, k, w, fetches), λ x h. record { fetches = whole .fetched; ends = ended }))
+            (rw (a, n, w, fetches), (rw (a, k, w, fetches), λ x h. whole))

@@ -1,3 +1,4 @@
+pub mod Trials
 pub mod Regions
 pub mod Steps
 pub mod Running

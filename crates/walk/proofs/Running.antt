@@ -17,11 +17,11 @@ use Rattle.instruction.specs.declared.flow_control.Control.{Control}
 use Rattle.instruction.specs.declared.flow_control.Control.the-variants.{Plain}
 use Rattle.verifier.proofs.Lists.{filled-at, sets-append}
 use Rattle.walk.specs.Inside.{Frame, frame, shown, Standing, standing, view, moveOf, ending, arriveBy, readBy, controlsOf, Runs, fetchesBy}
-use Rattle.walk.specs.Walk.{wordsIn, fetchesIn}
+use Rattle.walk.specs.Walk.{indicesOf, fetchesIn}
 use Rattle.walk.specs.declared.moves.Move.{Move}
 use Rattle.walk.proofs.Steps.{Shows, Follows, halts, follows, shown-few}
 
-words-length : (l : List State) → length (wordsIn l) ≡ length l
+words-length : (l : List State) → length (indicesOf l) ≡ length l
 words-length [] = refl
 words-length (s ∷ l) = ap suc (words-length l)
 
@@ -111,7 +111,7 @@ module _ (ws : List ℕ) (v : Settings) where
       pub few : read ≤ steps
       pub before : List ℕ
       pub made : length before ≡ steps
-      pub whole : all ≡ before ++ wordsIn (state ∷ rest)
+      pub whole : all ≡ before ++ indicesOf (state ∷ rest)
       pub written : list ≡ sets old 0 before
 
     module _ {fs : List Frame} {word read steps : ℕ} {list : List ℕ} (g : Going fs word read steps list) where
@@ -132,7 +132,7 @@ module _ (ws : List ℕ) (v : Settings) where
 
       pub early : steps < length all
       early =
-          let e : length all ≡ length (g .before) + suc (length (wordsIn (g .rest))) = ap length (g .whole) ∙ length-append (g .before) (wordsIn (g .state ∷ g .rest)) in
+          let e : length all ≡ length (g .before) + suc (length (indicesOf (g .rest))) = ap length (g .whole) ∙ length-append (g .before) (indicesOf (g .state ∷ g .rest)) in
           omega (arith, e, g .made)
 
       -- the word that is fetched
@@ -141,7 +141,7 @@ module _ (ws : List ℕ) (v : Settings) where
           let z : 0 + length (g .before) ≡ steps = omega (arith, g .made) in
           rw (g .written, sets-append (g .before) (word ∷ []) old 0, z)
 
-      fetched : {l : List State} → g .rest ≡ l → all ≡ g .before ++ word ∷ [] ++ wordsIn l
+      fetched : {l : List State} → g .rest ≡ l → all ≡ g .before ++ word ∷ [] ++ indicesOf l
       fetched e = g .whole ∙ rw (here, e) (sym (append-assoc (g .before) (g .state .word ∷ []) _))
 
       abbrev moved : Move
@@ -191,7 +191,7 @@ module _ (ws : List ℕ) (v : Settings) where
 
   -- the beginning: main alone is open, and nothing is fetched
   module _ (m e : ℕ) (r : Runs ws v m e) where
-    all-is : fetchesBy ws v m e ≡ wordsIn (r .whole .fetched)
+    all-is : fetchesBy ws v m e ≡ indicesOf (r .whole .fetched)
     unfolding fetchesBy
     all-is = ap fetchesIn (sym (run-same (r .descriptors) 4000000 (start m e)) ∙ r .whole .ends)
 
@@ -214,6 +214,6 @@ module _ (ws : List ℕ) (v : Settings) where
           few = omega arith;
           before = [];
           made = refl;
-          whole = all-is ∙ ap wordsIn (f .same);
+          whole = all-is ∙ ap indicesOf (f .same);
           written = refl;
         }

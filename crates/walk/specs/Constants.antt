@@ -1,8 +1,9 @@
 -- A constant handed to a caller (document 01, 'Layout of a library', 'Numbers given back').
 -- Assumes nothing.
+use mathlib.Core.Path.{_≡_}
 use mathlib.Core.Bool.{cond}
 use mathlib.Core.List.{List}
-use Prim.Native.Nat.{ℕ, _+_}
+use Prim.Native.Nat.{ℕ}
 use lib.Dec.{ltb}
 use Rattle.answer.specs.Answers.{Answer, given, refused}
 use Rattle.container.specs.Executable.{executableOf}
@@ -11,27 +12,32 @@ use Rattle.tables.specs.Constants.{entryOf, convertOf}
 use Rattle.tables.specs.declared.constants.Constant.{Constant}
 use Rattle.tables.specs.declared.constants.Converted.{Converted}
 use Rattle.tables.specs.declared.constants.Converted.the-variants as converted
-use Rattle.verifier.specs.Executables.{entryAt, placeOf}
+use Rattle.verifier.specs.Executables.{entryAt}
 use Rattle.verifier.specs.Verdict.{checkOf}
 use Rattle.verifier.specs.declared.verdict.Library.{Library}
 use Rattle.walk.specs.declared.constants.Handed.{Handed}
 use Rattle.walk.specs.declared.constants.Handed.the-variants as handed
 
--- 'a bool, four bytes or four f32 values', as `tables` converts an entry. A bad entry is refused by the check before (proofs/Handing.antt, never-bad)
-abbrev pub constantBy : ℕ → Converted → Answer Constant
-constantBy place (converted.Constant c) = given c
-constantBy place converted.Bad = refused 18 place
+-- 'a bool, four bytes or four f32 values', as `tables` converts an entry. The check before refuses a file with a bad one (`Hands`, below)
+abbrev pub constantBy : Converted → Answer Constant
+constantBy (converted.Constant c) = given c
+constantBy converted.Bad = refused 18 0
 
-abbrev pub constantAt : List ℕ → Table → ℕ → ℕ → Answer Constant
-constantAt file t place n = cond (ltb n (t .count)) (constantBy (place + n) (convertOf (entryOf (entryAt file t 20 n)))) (refused 29 0)
+-- entry n of the constant table; 29: 'executable or constant number not there'
+abbrev pub entryConstant : List ℕ → Table → ℕ → Answer Constant
+entryConstant file t n = cond (ltb n (t .count)) (constantBy (convertOf (entryOf (entryAt file t 20 n)))) (refused 29 0)
 
--- '29 .. come[s] after the whole check': an executable or a constant that is not there
+-- '29 .. come[s] after the whole check'
 abbrev pub constantIn : List ℕ → ℕ → ℕ → Answer Library → Answer Constant
 constantIn file index n (refused number place) = refused number place
-constantIn file index n (given l) = cond (ltb index (l .executables)) (constantAt file (executableOf file index .constants) (placeOf index) n) (refused 29 0)
+constantIn file index n (given l) = cond (ltb index (l .executables)) (entryConstant file (executableOf file index .constants) n) (refused 29 0)
 
 unfoldable pub constantAnswer : List ℕ → ℕ → ℕ → Answer Constant
 constantAnswer file index n = constantIn file index n (checkOf file)
+
+-- 18 is never answered after an accepted check
+abbrev pub Hands : List ℕ → Handed → Type 0
+Hands file r = (l : Library) → checkOf file ≡ given l → (place : ℕ) → r ≡ handed.Refused 18 place → ⊥
 
 -- the code's answer
 abbrev pub handedAs : Handed → Answer Constant

@@ -67,7 +67,7 @@ closing p (f ∷ fs) =
     let ended = pick (ltb 1 (f .turns) && not (eqb (f .then) (f .end))) (standing (f .then) (frame (f .end) (f .then) (f .turns - 1) ∷ fs)) closed in
     pick (eqb p (f .end)) ended (standing p (f ∷ fs))
 
--- BREAK closes the frames up to the innermost LOOP's, with it
+-- BREAK closes the frames up to the innermost LOOP's, with it. Without one a run has no next step
 unfoldable pub leaving : List Frame → Standing
 leaving [] = standing 0 []
 leaving (f ∷ fs) = let outer = leaving fs in pick (ltb 0 (f .turns)) (standing (f .end) fs) outer

@@ -5,15 +5,14 @@ use mathlib.Core.Bool.{Bool, not, _||_, cond}
 use mathlib.Core.List.{List, [], _∷_}
 use Prim.Native.Nat.{ℕ}
 use lib.Dec.{eqb, ltb}
-use lib.ListN.{length}
+use lib.ListN.{length, getD}
 use lib.Seq.{sets}
 use Rattle.answer.specs.Answers.{Answer, given, refused}
-use Rattle.binary.specs.Bytes.{u8At}
-use Rattle.container.specs.Executable.{executableOf}
 use Rattle.container.specs.Program.{programOf}
-use Rattle.flow.specs.Stepping.{Settings, State, start, Run, done, failed, unfinished, run}
-use Rattle.verifier.specs.Clean.{codeIn}
+use Rattle.flow.specs.Stepping.{Settings, State, Run, done, failed, unfinished, run}
+use Rattle.flow.specs.WholeRun.{Whole}
 use Rattle.verifier.specs.Executables.{reportOf}
+use Rattle.verifier.specs.Promise.{codeFor, startFor}
 use Rattle.verifier.specs.Verdict.{checkOf}
 use Rattle.verifier.specs.declared.verdict.Library.{Library}
 use Rattle.walk.specs.declared.walking.Walked.{Walked}
@@ -27,29 +26,26 @@ abbrev pub truthsIn : List ℕ → List Bool
 truthsIn [] = []
 truthsIn (b ∷ bs) = nonZero b ∷ truthsIn bs
 
--- 'one of 16 bool bytes (non-zero true), LOOP one of 4 bytes x'; the truth list
+-- 'one of 16 bool bytes (non-zero true), LOOP one of 4 bytes x', and the truth list, 'non-zero true'
 abbrev pub settingsOf : List ℕ → List ℕ → List ℕ → Settings
-settingsOf bools ints truth = record { bools = λ b. nonZero (u8At bools b); ints = λ r. u8At ints r; truths = truthsIn truth }
+settingsOf bools ints truth = record { bools = λ b. nonZero (getD bools b 0); ints = λ r. getD ints r 0; truths = truthsIn truth }
 
--- an executable's run by the stepping rules, with as many steps at most as the total in its report: the run that demand 3 speaks of
+-- the run of an executable that demand 3 speaks of: of as many steps at most as the total in its report. A larger bound gives the same run (proofs/Answers.antt, longer)
 unfoldable pub runOf : List ℕ → ℕ → Settings → Run
-runOf file index v =
-    let p = programOf file in
-    let e = executableOf file index in
-    run (codeIn file p (p .descriptors .count)) v (reportOf file p index .total) (start (e .main .0) (e .endmain .0))
+runOf file index v = run (codeFor file) v (reportOf file (programOf file) index .total) (startFor file index)
 
 -- 'the index of each fetched word, in order'
-abbrev pub wordsIn : List State → List ℕ
-wordsIn [] = []
-wordsIn (s ∷ l) = s .word ∷ wordsIn l
+abbrev pub indicesOf : List State → List ℕ
+indicesOf [] = []
+indicesOf (s ∷ l) = s .word ∷ indicesOf l
 
--- of a run that ends. No run of an accepted executable is another (`Ends`, below)
+-- those of a run that ends; none of any other, which `RunsWhole` below rules out
 abbrev pub fetchesIn : Run → List ℕ
-fetchesIn (done l) = wordsIn l
+fetchesIn (done l) = indicesOf l
 fetchesIn (failed l) = []
 fetchesIn (unfinished l) = []
 
--- 'The walk makes the whole check first and passes its refusal on'; '29, then 30, come after the whole check'; 'under 16 bools or 4 integers gives 30'; else the fetched words
+-- 'The walk makes the whole check first and passes its refusal on'; '29, then 30, come after the whole check'; 'under 16 bools or 4 integers gives 30'; else the fetches
 module _ (file : List ℕ) (index : ℕ) (bools ints truth : List ℕ) where
   abbrev pub walkIn : Answer Library → Answer (List ℕ)
   walkIn (refused number place) = refused number place
@@ -58,27 +54,22 @@ module _ (file : List ℕ) (index : ℕ) (bools ints truth : List ℕ) where
       (cond (ltb (length bools) 16 || ltb (length ints) 4) (refused 30 0) (given (fetchesIn (runOf file index (settingsOf bools ints truth)))))
       (refused 29 0)
 
-  unfoldable pub walkAnswer : Answer (List ℕ)
-  walkAnswer = walkIn (checkOf file)
+  unfoldable pub walkFetches : Answer (List ℕ)
+  walkFetches = walkIn (checkOf file)
+
+  -- where steps are answered, it is the whole run: inside the tables and the limits, within the total, and its last word is END
+  abbrev pub RunsWhole : Walked → Type 0
+  RunsWhole r = (n : ℕ) → r ≡ walked.Steps n → Whole (codeFor file) (settingsOf bools ints truth) 4 8 2 (reportOf file (programOf file) index .total) (startFor file index)
 
 -- 'it answers the steps made'
 abbrev pub stepsOf : Answer (List ℕ) → Answer ℕ
-stepsOf (given ws) = given (length ws)
+stepsOf (given fetches) = given (length fetches)
 stepsOf (refused number place) = refused number place
 
 -- 'and writes the index of each fetched word, in order, to a lent list of u16, as many as fit, the rest untouched': past its end nothing is set; a refusal leaves it as it was
-abbrev pub fetchedIn : Answer (List ℕ) → List ℕ → List ℕ
-fetchedIn (given ws) old = sets old 0 ws
-fetchedIn (refused number place) old = old
-
--- a run whose last word is END, and that has a next step at every other
-pub record Ended (r : Run) : Type 0 where
-  pub fetches : List State
-  pub ends : r ≡ done fetches
-
--- where steps are answered, the run ends
-abbrev pub Ends : List ℕ → ℕ → List ℕ → List ℕ → List ℕ → Walked → Type 0
-Ends file index bools ints truth r = (n : ℕ) → r ≡ walked.Steps n → Ended (runOf file index (settingsOf bools ints truth))
+abbrev pub writtenTo : List ℕ → Answer (List ℕ) → List ℕ
+writtenTo old (given fetches) = sets old 0 fetches
+writtenTo old (refused number place) = old
 
 -- the code's answer
 abbrev pub walkedAs : Walked → Answer ℕ

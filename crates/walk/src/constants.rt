@@ -1,6 +1,6 @@
 // A constant of an executable.
 ghost use mathlib.Core.Path.{_≡_};
-ghost use Rattle.walk.specs.Constants.{constantAnswer, handedAs};
+ghost use Rattle.walk.specs.Constants.{constantAnswer, Hands, handedAs};
 use crate::refusal::refusal_of;
 use binary::ByteOffset;
 use binary::tail;
@@ -18,9 +18,10 @@ pub enum Handed {
     Refused { number: u32, place: u32 },
 }
 
-// The whole check, then 29 for an executable or a constant that is not there, else the constant.
+// The whole check, then 29 for an executable or a constant that is not there, else the constant. `n` counts the entries of the executable's constant table.
 pub fn constant(file: &[u8], executable: u32, n: u32) -> Handed
-    ensures { λ r. ⌜ handedAs r ≡ constantAnswer (now (file .entry)) executable n ⌝ }
+    ensures answers { λ r. ⌜ handedAs r ≡ constantAnswer (now (file .entry)) executable n ⌝ }
+    ensures hands { λ r. ⌜ Hands (now (file .entry)) r ⌝ }
 {
     let verdict = check(file);
     let Checked::Accepted(library) = verdict else {

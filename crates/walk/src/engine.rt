@@ -34,7 +34,7 @@ fn note(fetched: &mut [u16], step: usize, word: u16)
     }
 }
 
-// The run of a main whose whole run is known to end: how many steps it makes, and in `fetched` the words.
+// The run of a main whose whole run is known to end: how many steps it makes, and in `fetched` the index of each fetched word, as many as fit.
 pub(crate) fn run_main(
     words: &[u32],
     main: WordAddress,

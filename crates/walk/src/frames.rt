@@ -2,11 +2,12 @@
 ghost use mathlib.Core.Path.{_≡_};
 ghost use mathlib.Core.List.{List, _∷_};
 ghost use Prim.Native.Nat.{ℕ, _+_, _≤_};
+ghost use lib.ListN.{length};
 ghost use Rattle.walk.specs.Inside.{frame, framesOf, Room, standing, closing, leaving, arriveBy, readBy};
 use crate::moves::Move;
 
 // The word where a run goes on, and how many regions are open.
-pub struct Place {
+pub struct Reached {
     pub word: u64,
     pub depth: usize,
 }
@@ -18,7 +19,7 @@ pub(crate) fn arrive(
     turns: &mut [u64],
     word: u64,
     depth: usize,
-) -> Place
+) -> Reached
     requires { ⌜ Room depth (now ends) (now thens) (now turns) ⌝ }
     ensures { λ r. ⌜ standing (r .word) (framesOf (now (ends .entry)) (now (thens .entry)) (now (turns .exit)) (r .depth)) ≡ closing word (framesOf (now (ends .entry)) (now (thens .entry)) (now (turns .entry)) depth) ⌝ }
 {
@@ -27,7 +28,7 @@ pub(crate) fn arrive(
     while 0 < left {
         let top = left - 1;
         if at != ends[top] {
-            return Place {
+            return Reached {
                 word: at,
                 depth: left,
             };
@@ -36,7 +37,7 @@ pub(crate) fn arrive(
         let count = turns[top];
         if 1 < count && then != at {
             turns[top] = count - 1;
-            return Place {
+            return Reached {
                 word: then,
                 depth: left,
             };
@@ -46,12 +47,12 @@ pub(crate) fn arrive(
         }
         left = top;
     }
-    Place { word: at, depth: 0 }
+    Reached { word: at, depth: 0 }
 }
 
-// BREAK: closes what is open up to the innermost LOOP, with it, and goes on where it ends.
-pub(crate) fn leave(ends: &[u64], turns: &[u64], depth: usize) -> Place
-    requires { ⌜ Room depth (now ends) (now ends) (now turns) ⌝ }
+// BREAK: closes what is open up to the innermost LOOP, with it, and goes on where it ends. With no LOOP open a run has no next step, so what is answered then does not matter.
+pub(crate) fn leave(ends: &[u64], turns: &[u64], depth: usize) -> Reached
+    requires { ⌜ (depth ≤ 16) × (length (now ends) ≡ 16) × (length (now turns) ≡ 16) ⌝ }
     ensures shallower { λ r. ⌜ r .depth ≤ depth ⌝ }
     ensures leaves { λ r. ⌜ ((thens : List ℕ) → standing (r .word) (framesOf (now (ends .entry)) thens (now (turns .entry)) (r .depth)) ≡ leaving (framesOf (now (ends .entry)) thens (now (turns .entry)) depth)) ⌝ }
 {
@@ -59,13 +60,13 @@ pub(crate) fn leave(ends: &[u64], turns: &[u64], depth: usize) -> Place
     while 0 < left {
         left -= 1;
         if 0 < turns[left] {
-            return Place {
+            return Reached {
                 word: ends[left],
                 depth: left,
             };
         }
     }
-    Place { word: 0, depth: 0 }
+    Reached { word: 0, depth: 0 }
 }
 
 // Opens a region inside the others.
@@ -93,12 +94,12 @@ pub struct Position {
     pub read: u64,
 }
 
-fn with_read(place: Place, read: u64) -> Position
-    ensures { λ r. ⌜ r ≡ record { word = place .word; depth = place .depth; read = read } ⌝ }
+fn with_read(reached: Reached, read: u64) -> Position
+    ensures { λ r. ⌜ r ≡ record { word = reached .word; depth = reached .depth; read = read } ⌝ }
 {
     Position {
-        word: place.word,
-        depth: place.depth,
+        word: reached.word,
+        depth: reached.depth,
         read,
     }
 }
@@ -116,7 +117,7 @@ pub(crate) fn follow(
     ensures reads { λ r. ⌜ r .read ≡ readBy asked ⌝ }
 {
     match asked {
-        Move::End => with_read(Place { word: 0, depth: 0 }, 0),
+        Move::End => with_read(Reached { word: 0, depth: 0 }, 0),
         Move::Go { word, read } => with_read(arrive(ends, thens, turns, word, depth), read),
         Move::Leave { read } => {
             let left = leave(ends, turns, depth);

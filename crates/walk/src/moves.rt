@@ -2,15 +2,14 @@
 ghost use mathlib.Core.Path.{_≡_};
 ghost use mathlib.Core.List.{List};
 ghost use Prim.Native.Nat.{ℕ, _<_, _^_};
+ghost use lib.ListN.{getD};
 ghost use Rattle.flow.specs.Stepping.{holds, reads};
 ghost use Rattle.walk.specs.Inside.{nextWord, moveBreak, moveIf, moveLoop, moveCall, moveJump, moveOf, ending};
 ghost use Rattle.walk.specs.Walk.{settingsOf};
-use binary::ByteOffset;
-use binary::u8_at;
 use instruction::Condition;
 use instruction::Control;
 
-// Addresses are sums of a word's DST and NUM, and have 64 bits. `read` is how many outcomes are read then.
+// What a word asks for. Addresses are sums of its DST and NUM, which have 64 bits here; `read` is how many outcomes are read then.
 pub enum Move {
     End,
     // Go on at a word.
@@ -32,14 +31,22 @@ pub enum Move {
     },
 }
 
-// The truth of a condition, with so many outcomes read before. No condition looks at the bytes x.
+// A byte of the bools, the bytes x or the truth list; 0 past the end.
+fn byte_at(bytes: &[u8], i: u64) -> u8
+    ensures { λ r. ⌜ r ≡ getD (now (bytes .entry)) i 0 ⌝ }
+{
+    let at = i as usize;
+    if at < bytes.len() { bytes[at] } else { 0 }
+}
+
+// The truth of a condition, with so many outcomes read before. No condition looks at the bytes x, so the promise holds for any.
 fn is_true(condition: Condition, bools: &[u8], truth: &[u8], read: u64) -> bool
     ensures { λ r. ⌜ ((ints : List ℕ) → r ≡ holds (settingsOf (now (bools .entry)) ints (now (truth .entry))) condition read) ⌝ }
 {
     match condition {
         Condition::Always => true,
-        Condition::Compared => u8_at(truth, ByteOffset(read)) != 0,
-        Condition::Uniform(b) => u8_at(bools, ByteOffset(b as u64)) != 0,
+        Condition::Compared => byte_at(truth, read) != 0,
+        Condition::Uniform(b) => byte_at(bools, b as u64) != 0,
     }
 }
 
@@ -81,19 +88,19 @@ fn move_if(taken: bool, word: u64, dst: u32, num: u32, read: u64) -> Move
     ensures { λ r. ⌜ r ≡ moveIf taken word dst num read ⌝ }
 {
     let first = dst as u64;
-    let end = first + num as u64;
+    let after = first + num as u64;
     if taken {
         Move::Open {
             end: first,
-            then: end,
+            then: after,
             turns: 0,
             word: word + 1,
             read,
         }
     } else {
         Move::Open {
-            end,
-            then: end,
+            end: after,
+            then: after,
             turns: 0,
             word: first,
             read,
@@ -147,7 +154,7 @@ fn move_jump(taken: bool, word: u64, dst: u32, read: u64) -> Move
     }
 }
 
-// The word at an address, with so many outcomes read before it. NUM of a jump is not read.
+// The word at an address, with so many outcomes read before it. NUM of a jump is not read. An unknown word and a LOOP register over 3 have no next step, so what is answered for them does not matter.
 pub(crate) fn move_of(
     control: Control,
     word: u64,
@@ -173,7 +180,7 @@ pub(crate) fn move_of(
             move_if(taken, word, dst.0, num, read_after(c, read))
         }
         Control::Loop(register, dst) => {
-            let x = u8_at(ints, ByteOffset(register as u64));
+            let x = byte_at(ints, register as u64);
             move_loop(x, word, dst.0, read)
         }
         Control::Call(c, dst, num) => {

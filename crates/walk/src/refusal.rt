@@ -8,7 +8,7 @@ pub struct Refusal {
     pub place: u32,
 }
 
-// Zeros where the library is accepted.
+// For a `let .. else`, whose other branch knows no fields. Zeros where the library is accepted.
 pub(crate) fn refusal_of(verdict: Checked) -> Refusal
     ensures { λ r. ⌜ r ≡ refusalIn verdict ⌝ }
 {

@@ -1,6 +1,6 @@
 // The control walk.
 ghost use mathlib.Core.Path.{_≡_};
-ghost use Rattle.walk.specs.Walk.{walkAnswer, stepsOf, fetchedIn, walkedAs, Ends};
+ghost use Rattle.walk.specs.Walk.{walkFetches, RunsWhole, stepsOf, writtenTo, walkedAs};
 use crate::engine::run_main;
 use crate::refusal::refusal_of;
 use container::executable_of;
@@ -14,8 +14,8 @@ pub enum Walked {
     Refused { number: u32, place: u32 },
 }
 
-// The whole check, then 29 for an executable that is not there, then 30 for settings that are too short; else the run of the executable with these settings.
-// Each fetched word's index is written to `fetched`, as many as fit.
+// The whole check, then 29 for an executable that is not there, then 30 for fewer than 16 bools or 4 integers; else the run of the executable.
+// The index of each fetched word is written to `fetched`, as many as fit; the rest of it stays, and all of it where the walk is refused.
 pub fn walk(
     file: &[u8],
     executable: u32,
@@ -24,9 +24,9 @@ pub fn walk(
     truth: &[u8],
     fetched: &mut [u16],
 ) -> Walked
-    ensures answers { λ r. ⌜ walkedAs r ≡ stepsOf (walkAnswer (now (file .entry)) executable (now (bools .entry)) (now (ints .entry)) (now (truth .entry))) ⌝ }
-    ensures writes { λ _. ⌜ now (fetched .exit) ≡ fetchedIn (walkAnswer (now (file .entry)) executable (now (bools .entry)) (now (ints .entry)) (now (truth .entry))) (now (fetched .entry)) ⌝ }
-    ensures ends { λ r. ⌜ Ends (now (file .entry)) executable (now (bools .entry)) (now (ints .entry)) (now (truth .entry)) r ⌝ }
+    ensures answers { λ r. ⌜ walkedAs r ≡ stepsOf (walkFetches (now (file .entry)) executable (now (bools .entry)) (now (ints .entry)) (now (truth .entry))) ⌝ }
+    ensures writes { λ _. ⌜ now (fetched .exit) ≡ writtenTo (now (fetched .entry)) (walkFetches (now (file .entry)) executable (now (bools .entry)) (now (ints .entry)) (now (truth .entry))) ⌝ }
+    ensures runs { λ r. ⌜ RunsWhole (now (file .entry)) executable (now (bools .entry)) (now (ints .entry)) (now (truth .entry)) r ⌝ }
 {
     let verdict = check(file);
     let Checked::Accepted(library) = verdict else {

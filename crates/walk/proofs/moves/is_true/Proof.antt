@@ -9,10 +9,10 @@ returns : tie.Need-returns
 returns c ints = rw (c .enum-told .given .1)
 
 returns-2 : tie.Need-returns-2
-returns-2 c ints = rw (c .before .enum-told2 .given .1, c .u8-at .ensures) (truth-at (c .before .before .before .before .before .args .truth .now) (c .before .before .before .before .before .args .read))
+returns-2 c ints = rw (c .before .enum-told2 .given .1, c .byte-at .ensures) (truth-at (c .before .before .before .before .before .args .truth .now) (c .before .before .before .before .before .args .read))
 
 returns-3 : tie.Need-returns-3
-returns-3 c ints = rw (c .before .before .condition .given .1, c .u8-at2 .ensures)
+returns-3 c ints = rw (c .before .before .condition .given .1, c .byte-at2 .ensures)
 
 pub is-true-spec : {M : Type 1} → statement M
 is-true-spec =

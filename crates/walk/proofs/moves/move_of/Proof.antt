@@ -26,7 +26,7 @@ returns-6 c =
     c .move-if .ensures ∙ rw (k .is-true2 .ensures (s .args .ints .now), c .before .read-after2 .ensures, k .before .before .control2 .given .1)
 
 returns-7 : tie.Need-returns-7
-returns-7 c = c .move-loop .ensures ∙ rw (c .before .u8-at .ensures, c .before .before .before .control3 .given .1)
+returns-7 c = c .move-loop .ensures ∙ rw (c .before .byte-at .ensures, c .before .before .before .control3 .given .1)
 
 returns-8 : tie.Need-returns-8
 returns-8 c =
