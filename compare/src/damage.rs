@@ -22,7 +22,7 @@ fn entry(file: &mut [u8], t: &Entries, size: usize, field: usize, value: u8, ran
 pub fn damage(file: &mut Vec<u8>, layout: &Layout, random: &mut Random) {
     let e = &layout.executables[random.below(layout.executables.len())];
     let p = visited(layout, random);
-    let any = random.next() as u32;
+    let any = random.draw() as u32;
     let condition = random.bits(4) << 22;
     if file.len() < e.dvle + 64
         || file.len() < layout.words + 4 * layout.word_count
@@ -177,7 +177,7 @@ pub fn rough(file: &mut Vec<u8>, random: &mut Random) {
         match random.below(8) {
             0 => file.truncate(at),
             1 => file.extend((0..random.below(64)).map(|i| i as u8)),
-            2 => file[at] = random.next() as u8,
+            2 => file[at] = random.draw() as u8,
             3 => file[at] = [0, 0xff, 0x7f, 0x80][random.below(4)],
             4 => {
                 let from = random.below(file.len());

@@ -147,7 +147,7 @@ fn words_and_mains(
     descriptors: usize,
 ) -> Option<(Vec<u32>, Vec<Main>, Extent)> {
     let sizes = [4, 12, 40, 120];
-    let mut seed = Random::new(random.next());
+    let mut seed = Random::new(random.draw());
     let mut program = Program::new(random, descriptors);
     for _ in 0..seed.below(6) {
         program.routine(sizes[seed.below(3)]);
@@ -193,7 +193,7 @@ fn program_tables(
     }
     table(file, base, base + 0x10, descriptors);
     for _ in 0..descriptors {
-        put32(file, random.next() as u32);
+        put32(file, random.draw() as u32);
         put32(file, 0x0f);
     }
     let lines = random.below(3);
@@ -219,7 +219,7 @@ fn executable(
     file[base + 6] = main.kind;
     set32(file, base + 0x08, main.start as u32);
     set32(file, base + 0x0c, main.end as u32);
-    set32(file, base + 0x10, random.next() as u32);
+    set32(file, base + 0x10, random.draw() as u32);
     let many = if random.one_in(10) { 60 } else { 8 };
     let counts = [
         random.below(many),
@@ -279,18 +279,18 @@ fn constant(file: &mut Vec<u8>, random: &mut Random) {
     let id = random.below([16, 4, 96][kind]);
     file.extend([
         kind as u8,
-        random.next() as u8,
+        random.draw() as u8,
         id as u8,
-        random.next() as u8,
+        random.draw() as u8,
     ]);
     match kind {
         0 => file.extend([
             random.bits(1) as u8,
-            random.next() as u8,
-            random.next() as u8,
-            random.next() as u8,
+            random.draw() as u8,
+            random.draw() as u8,
+            random.draw() as u8,
         ]),
-        1 => put32(file, random.next() as u32),
+        1 => put32(file, random.draw() as u32),
         _ => put32(file, float24(random)),
     }
     for _ in 0..3 {
@@ -299,7 +299,7 @@ fn constant(file: &mut Vec<u8>, random: &mut Random) {
             if kind == 2 {
                 float24(random)
             } else {
-                random.next() as u32
+                random.draw() as u32
             },
         );
     }
@@ -317,9 +317,9 @@ fn float24(random: &mut Random) -> u32 {
 }
 
 fn label(file: &mut Vec<u8>, words: usize, symbols: usize, random: &mut Random) {
-    put32(file, random.next() as u32);
+    put32(file, random.draw() as u32);
     put32(file, random.below(words + 1) as u32);
-    put32(file, random.next() as u32);
+    put32(file, random.draw() as u32);
     put32(file, random.below(symbols) as u32);
 }
 
@@ -345,14 +345,14 @@ fn uniform(file: &mut Vec<u8>, symbols: usize, random: &mut Random) {
 }
 
 /// The offset, from its section's start, and the count of a table that begins at the end of the file.
-fn table(file: &mut Vec<u8>, base: usize, field: usize, count: usize) {
+fn table(file: &mut [u8], base: usize, field: usize, count: usize) {
     let offset = file.len() - base;
     set32(file, field, offset as u32);
     set32(file, field + 4, count as u32);
 }
 
 fn align(file: &mut Vec<u8>) {
-    file.resize((file.len() + 3) / 4 * 4, 0);
+    file.resize(file.len().div_ceil(4) * 4, 0);
 }
 
 fn put32(file: &mut Vec<u8>, n: u32) {

@@ -11,7 +11,7 @@ impl Random {
         Random((z ^ (z >> 31)) | 1)
     }
 
-    pub fn next(&mut self) -> u64 {
+    pub fn draw(&mut self) -> u64 {
         self.0 ^= self.0 << 13;
         self.0 ^= self.0 >> 7;
         self.0 ^= self.0 << 17;
@@ -23,7 +23,7 @@ impl Random {
         if n == 0 {
             0
         } else {
-            (self.next() >> 16) as usize % n
+            (self.draw() >> 16) as usize % n
         }
     }
 
@@ -37,6 +37,6 @@ impl Random {
     }
 
     pub fn bits(&mut self, width: u32) -> u32 {
-        (self.next() >> 24) as u32 & ((1u64 << width) - 1) as u32
+        (self.draw() >> 24) as u32 & ((1u64 << width) - 1) as u32
     }
 }
