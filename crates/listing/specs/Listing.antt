@@ -1,12 +1,11 @@
 -- The listing and the report of a whole library (document 01, 'Listing and report', 'Numbers given back').
 -- Assumes nothing.
 use Prim.Native.Nat.{ℕ, zero, suc, _+_, _*_}
-use mathlib.Core.Bool.{cond}
 use mathlib.Core.List.{List, [], _∷_, _++_}
 use lib.Dec.{ltb}
 use lib.ListN.{length}
 use lib.Seq.{sets}
-use Rattle.answer.specs.Answers.{Answer, given, refused}
+use Rattle.answer.specs.Answers.{Answer, given, refused, orShort}
 use Rattle.binary.specs.Bytes.{u32At}
 use Rattle.container.specs.declared.placement.Table.{Table}
 use Rattle.container.specs.declared.programs.Program.{Program}
@@ -41,7 +40,7 @@ summaryAt file p i = recordOf 80 (reportText i (reportOf file p i))
 
 -- 30, 'lent buffer too short', for n records of 80 bytes; else how many bytes are written
 abbrev pub room : ℕ → ℕ → Answer ℕ
-room size n = cond (ltb size (n * 80)) (refused 30 0) (given (n * 80))
+room size n = orShort (ltb size (n * 80)) (given (n * 80))
 
 -- the buffer's final bytes: the records in the place of its first, and none beyond; as they were where the answer is a refusal
 abbrev pub writes : Answer ℕ → List ℕ → List ℕ → List ℕ

@@ -15,7 +15,7 @@ use borrow.Author.Tests.{lt-ltb, le-ltb, eq-eqb, ne-eqb, eqb-true, eqb-false}
 use Rattle.binary.specs.Bytes.{u8At, u32At}
 use Rattle.bits.specs.Fields.{fieldsFrom, pack, fit}
 use Rattle.bits.proofs.Laws.{fields-pack}
-use Rattle.tables.specs.Constants.{entryOf, constantIf, flagOf, bytesOf, f32Of, vectorOf, convertOf}
+use Rattle.tables.specs.Constants.{entryOf, constantIf, flagOf, bytesOf, f32Of, vectorOf, convertOf, floatsOf}
 use Rattle.tables.specs.Entries.{labelAddress, labelName, goodLabel, uniformName, uniformStart, uniformEnd, inOneKind, goodUniform}
 use Rattle.tables.specs.Float24.{fraction, exponent, sign, topByte, f32Bits}
 use Rattle.tables.specs.Names.{meets0, goodName, namesEnd}
@@ -200,19 +200,16 @@ unfolding constantIf
 the-constant true r = cc
 the-constant false r = apart (cc)
 
-pub vector-bits : (e : ConstantEntry) (v : FloatVector) → convertOf e ≡ converted.Constant (Vector v)
-    → map (toBits binary32) (v .x ∷ v .y ∷ v .z ∷ v .w ∷ []) ≡ map f32Bits (e .x ∷ e .y ∷ e .z ∷ e .w ∷ [])
+pub vector-floats : (e : ConstantEntry) (v : FloatVector) → convertOf e ≡ converted.Constant (Vector v) → floatsOf e ≡ v
 unfolding convertOf
-vector-bits e v q =
-    let same : Vector floats ≡ Vector v = by (eqb (e .kind) 0) (eqb (e .kind) 1) (eqb (e .kind) 2) q in
-    let parts : floats ≡ v = cc in
-    rw (← parts, has-bits (e .x), has-bits (e .y), has-bits (e .z), has-bits (e .w))
+vector-floats e v q = let same : Vector (floatsOf e) ≡ Vector v = by (eqb (e .kind) 0) (eqb (e .kind) 1) (eqb (e .kind) 2) q in cc
   where
-    floats : FloatVector
-    floats = record { x = f32Of (e .x); y = f32Of (e .y); z = f32Of (e .z); w = f32Of (e .w) }
-
-    by : (a b c : Bool) → cond a (flagOf e) (cond b (bytesOf e) (cond c (vectorOf e) converted.Bad)) ≡ converted.Constant (Vector v) → Vector floats ≡ Vector v
+    by : (a b c : Bool) → cond a (flagOf e) (cond b (bytesOf e) (cond c (vectorOf e) converted.Bad)) ≡ converted.Constant (Vector v) → Vector (floatsOf e) ≡ Vector v
     by true b c r = let f = the-constant _ r in apart (cc)
     by false true c r = let f = the-constant _ r in apart (cc)
     by false false true r = the-constant _ r
     by false false false r = apart (cc)
+
+pub vector-bits : (e : ConstantEntry) (v : FloatVector) → convertOf e ≡ converted.Constant (Vector v)
+    → map (toBits binary32) (v .x ∷ v .y ∷ v .z ∷ v .w ∷ []) ≡ map f32Bits (e .x ∷ e .y ∷ e .z ∷ e .w ∷ [])
+vector-bits e v q = rw (← vector-floats e v q, has-bits (e .x), has-bits (e .y), has-bits (e .z), has-bits (e .w))

@@ -15,6 +15,7 @@ use Rattle.tables.specs.declared.constants.ConstantEntry.{ConstantEntry}
 use Rattle.tables.specs.declared.constants.Constant.{Constant}
 use Rattle.tables.specs.declared.constants.Constant.the-variants.{Flag, Bytes, Vector}
 use Rattle.tables.specs.declared.constants.Converted.{Converted}
+use Rattle.tables.specs.declared.constants.FloatVector.{FloatVector}
 use Rattle.tables.specs.declared.constants.Converted.the-variants as converted
 
 -- what an entry holds; a bool's value is the lowest byte of x, an integer's bytes are all four, lowest first
@@ -48,10 +49,13 @@ bytesOf e =
 abbrev pub f32Of : ℕ → Float
 f32Of w = ofBits binary32 (f32Bits w)
 
+abbrev pub floatsOf : ConstantEntry → FloatVector
+floatsOf e = record { x = f32Of (e .x); y = f32Of (e .y); z = f32Of (e .z); w = f32Of (e .w) }
+
 abbrev pub vectorOf : ConstantEntry → Converted
 vectorOf e =
     constantIf (leb (e .id) 95 && (goodFloat24 (e .x) && goodFloat24 (e .y) && goodFloat24 (e .z) && goodFloat24 (e .w)))
-    (Vector (record { x = f32Of (e .x); y = f32Of (e .y); z = f32Of (e .z); w = f32Of (e .w) }))
+    (Vector (floatsOf e))
 
 -- no other kind is good
 unfoldable pub convertOf : ConstantEntry → Converted

@@ -7,3 +7,4 @@ pub mod Promise
 pub mod Answers
 pub mod Trials
 pub mod Taken
+pub mod Numbers

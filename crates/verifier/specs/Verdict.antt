@@ -1,11 +1,9 @@
 -- The whole check, and the answers of the public calls (document 01, 'Numbers given back', its last paragraph).
 -- Assumes nothing.
 use Prim.Native.Nat.{ℕ}
-use mathlib.Core.Bool.{cond}
 use mathlib.Core.List.{List}
-use lib.Dec.{ltb}
 use lib.ListN.{replicate}
-use Rattle.answer.specs.Answers.{Answer, given, refused}
+use Rattle.answer.specs.Answers.{Answer, given, refused, orMissing}
 use Rattle.answer.specs.Faults.{orElse, firstIn}
 use Rattle.answer.specs.declared.Fault.{Fault}
 use Rattle.answer.specs.declared.Fault.the-variants.{Nothing, At}
@@ -60,7 +58,7 @@ judgeOf file = record { verdict = checkOf file; reports = reportsBy (wholeFault 
 -- '29 .. come[s] after the whole check': an executable that is not there
 abbrev pub reportIn : List ℕ → ℕ → Answer Library → Answer Report
 reportIn file index (refused number place) = refused number place
-reportIn file index (given l) = cond (ltb index (l .executables)) (given (reportOf file (l .program) index)) (refused 29 0)
+reportIn file index (given l) = orMissing index (l .executables) (given (reportOf file (l .program) index))
 
 unfoldable pub reportAnswer : List ℕ → ℕ → Answer Report
 reportAnswer file index = reportIn file index (checkOf file)

@@ -1,11 +1,9 @@
 -- A constant handed to a caller (document 01, 'Layout of a library', 'Numbers given back').
 -- Assumes nothing.
 use mathlib.Core.Path.{_≡_}
-use mathlib.Core.Bool.{cond}
 use mathlib.Core.List.{List}
 use Prim.Native.Nat.{ℕ}
-use lib.Dec.{ltb}
-use Rattle.answer.specs.Answers.{Answer, given, refused}
+use Rattle.answer.specs.Answers.{Answer, given, refused, orMissing}
 use Rattle.container.specs.Executable.{executableOf}
 use Rattle.container.specs.declared.placement.Table.{Table}
 use Rattle.tables.specs.Constants.{entryOf, convertOf}
@@ -25,12 +23,12 @@ constantBy converted.Bad = refused 18 0
 
 -- entry n of the constant table; 29: 'executable or constant number not there'
 abbrev pub entryConstant : List ℕ → Table → ℕ → Answer Constant
-entryConstant file t n = cond (ltb n (t .count)) (constantBy (convertOf (entryOf (entryAt file t 20 n)))) (refused 29 0)
+entryConstant file t n = orMissing n (t .count) (constantBy (convertOf (entryOf (entryAt file t 20 n))))
 
 -- '29 .. come[s] after the whole check'
 abbrev pub constantIn : List ℕ → ℕ → ℕ → Answer Library → Answer Constant
 constantIn file index n (refused number place) = refused number place
-constantIn file index n (given l) = cond (ltb index (l .executables)) (entryConstant file (executableOf file index .constants) n) (refused 29 0)
+constantIn file index n (given l) = orMissing index (l .executables) (entryConstant file (executableOf file index .constants) n)
 
 unfoldable pub constantAnswer : List ℕ → ℕ → ℕ → Answer Constant
 constantAnswer file index n = constantIn file index n (checkOf file)

@@ -1,13 +1,13 @@
 -- The control walk (document 01, 'Stepping rules', last paragraph, and 'Numbers given back').
 -- Assumes nothing.
 use mathlib.Core.Path.{_≡_}
-use mathlib.Core.Bool.{Bool, not, _||_, cond}
+use mathlib.Core.Bool.{Bool, not, _||_}
 use mathlib.Core.List.{List, [], _∷_}
 use Prim.Native.Nat.{ℕ}
 use lib.Dec.{eqb, ltb}
 use lib.ListN.{length, getD}
 use lib.Seq.{sets}
-use Rattle.answer.specs.Answers.{Answer, given, refused}
+use Rattle.answer.specs.Answers.{Answer, given, refused, orMissing, orShort}
 use Rattle.container.specs.Program.{programOf}
 use Rattle.flow.specs.Stepping.{Settings, State, Run, done, failed, unfinished, run}
 use Rattle.flow.specs.WholeRun.{Whole}
@@ -50,9 +50,8 @@ module _ (file : List ℕ) (index : ℕ) (bools ints truth : List ℕ) where
   abbrev pub walkIn : Answer Library → Answer (List ℕ)
   walkIn (refused number place) = refused number place
   walkIn (given l) =
-      cond (ltb index (l .executables))
-      (cond (ltb (length bools) 16 || ltb (length ints) 4) (refused 30 0) (given (fetchesIn (runOf file index (settingsOf bools ints truth)))))
-      (refused 29 0)
+      orMissing index (l .executables)
+      (orShort (ltb (length bools) 16 || ltb (length ints) 4) (given (fetchesIn (runOf file index (settingsOf bools ints truth)))))
 
   unfoldable pub walkFetches : Answer (List ℕ)
   walkFetches = walkIn (checkOf file)
