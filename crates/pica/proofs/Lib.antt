@@ -1,0 +1,4 @@
+pub mod Laws
+pub mod Told
+pub mod Words
+pub mod Trials

@@ -1,0 +1,4 @@
+pub mod Replies
+pub mod Libraries
+pub mod Running
+pub mod Words
