@@ -59,7 +59,7 @@ pub fn case(seed: u64) -> Case {
 }
 
 /// Settings that are too short, and an executable that is not there, now and then.
-fn settings(random: &mut Random, executables: usize) -> Settings {
+pub fn settings(random: &mut Random, executables: usize) -> Settings {
     let executable = if random.one_in(20) {
         random.below(40)
     } else {
@@ -75,7 +75,8 @@ fn settings(random: &mut Random, executables: usize) -> Settings {
     } else {
         random.between(4, 5)
     };
-    let truth = random.below(64);
+    let most_truth = [8, 64, 4096][random.below(3)];
+    let truth = random.below(most_truth);
     let turns = [1, 4, 16, 256][random.below(4)];
     Settings {
         executable,
@@ -345,7 +346,7 @@ fn uniform(file: &mut Vec<u8>, symbols: usize, random: &mut Random) {
 }
 
 /// The offset, from its section's start, and the count of a table that begins at the end of the file.
-fn table(file: &mut [u8], base: usize, field: usize, count: usize) {
+pub(crate) fn table(file: &mut [u8], base: usize, field: usize, count: usize) {
     let offset = file.len() - base;
     set32(file, field, offset as u32);
     set32(file, field + 4, count as u32);
@@ -355,7 +356,7 @@ fn align(file: &mut Vec<u8>) {
     file.resize(file.len().div_ceil(4) * 4, 0);
 }
 
-fn put32(file: &mut Vec<u8>, n: u32) {
+pub(crate) fn put32(file: &mut Vec<u8>, n: u32) {
     file.extend(n.to_le_bytes());
 }
 

@@ -1,5 +1,6 @@
-//! Libraries made from a seed, to compare implementations on.
+//! Libraries to compare implementations on: made from a seed, and of known shape for the figures.
 pub mod damage;
 pub mod generate;
+pub mod inputs;
 pub mod program;
 pub mod random;

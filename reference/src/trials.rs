@@ -175,13 +175,12 @@ fn words_apart_and_together() {
 
 #[test]
 fn fields_not_to_encode() {
-    let bad: [(u32, &[u32]); 9] = [
+    let bad: [(u32, &[u32]); 8] = [
         (10, &[0; 8]),
         (1, &[0; 7]),
         (1, &[]),
         (1, &[0, 128, 0, 0, 0, 0, 0, 0]),
         (1, &[0, 0, 0, 0, 0, 0, 1, 0]),
-        (1, &[0, 0, 0, 0, 0, 0, 0, 0, 1]),
         (4, &[47, 0, 0, 0, 0, 0, 0, 0]),
         (3, &[0, 0, 0, 0, 0, 0, 0, 0]),
         (1, &[64, 0, 0, 0, 0, 0, 0, 0]),
@@ -195,6 +194,13 @@ fn fields_not_to_encode() {
             })
         );
     }
+}
+
+#[test]
+fn fields_after_the_eighth() {
+    let mut fields = vec![0, 0, 2, 37, 0, 17, 0, 0];
+    fields.extend([1, u32::MAX]);
+    assert_eq!(encode(1, &fields), Ok(0x0222_5100));
 }
 
 /// Each format's fields and its opcode bits fill a word, none twice.

@@ -200,13 +200,14 @@ pub fn decode(word: u32) -> Result<Decoded, Refusal> {
 }
 
 /// Puts a word together from what `decode` gives; anything else gives 31.
+/// Fields after the eighth are not looked at.
 pub fn encode(format: u32, fields: &[u32]) -> Result<u32, Refusal> {
     put_together(format as usize, fields).ok_or(refusal(31, 0))
 }
 
 fn put_together(format: usize, fields: &[u32]) -> Option<u32> {
     let layout = FIELDS.get(format)?;
-    let (&number, rest) = fields.split_first().filter(|_| fields.len() >= 8)?;
+    let &[number, ref rest @ ..] = fields.first_chunk::<8>()?;
     let operation = OPERATIONS.get(number as usize)?.as_ref()?;
     if u32::from(operation.number) != number || operation.format as usize != format {
         return None;

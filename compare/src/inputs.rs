@@ -1,0 +1,210 @@
+//! Libraries of known shape, all accepted, to take figures on.
+use crate::generate::{put32, set32, table};
+
+const NOP: u32 = 0x8400_0000;
+const END: u32 = 0x8800_0000;
+const CALL: u32 = 0x9000_0000;
+const IFU: u32 = 0x9c00_0000;
+const LOOP: u32 = 0xa400_0000;
+const JMPU: u32 = 0xb400_0000;
+
+/// The settings of every input's walk: the bools with odd numbers are true, and every LOOP makes 256 turns.
+pub const BOOLS: [u8; 16] = [0, 1, 0, 1, 0, 1, 0, 1, 0, 1, 0, 1, 0, 1, 0, 1];
+pub const INTS: [u8; 4] = [255; 4];
+
+pub struct Input {
+    pub name: String,
+    pub file: Vec<u8>,
+    pub executables: u32,
+}
+
+/// What the executables of a library share. All have type 0 and main at word 0.
+#[derive(Clone, Default)]
+struct Content {
+    words: Vec<u32>,
+    endmain: usize,
+    constants: Vec<u8>,
+    labels: Vec<u8>,
+    symbols: Vec<u8>,
+}
+
+/// Every program alone and as 16 executables, then the large tables in each of 16.
+pub fn all() -> Vec<Input> {
+    let programs = [
+        ("example", main_only(example())),
+        ("512 plain words", main_only(plain(512))),
+        ("P10", main_only(in_two_loops(vec![NOP; 61]))),
+        ("IFs in two LOOPs", main_only(in_two_loops(branches()))),
+        ("calls over 255 NOPs", calls_over(vec![NOP; 255])),
+        ("calls over jumps to the next word", calls_over(jumps_on())),
+    ];
+    // Alone only: a check that searches for each target at each visit takes seconds for one executable.
+    let far = [("calls over jumps to the last word", calls_over(jumps_far()))];
+    let tables = [
+        ("3,200 constants", vectors(3_200)),
+        ("2,000 labels", labels(2_000)),
+    ];
+    let alone = programs.iter().chain(&far);
+    let shared = programs.iter().chain(&tables);
+    alone
+        .map(|(name, content)| input(name, content, 1))
+        .chain(shared.map(|(name, content)| input(&format!("{name}, 16 executables"), content, 16)))
+        .collect()
+}
+
+fn input(name: &str, content: &Content, executables: usize) -> Input {
+    Input {
+        name: name.to_string(),
+        file: library(content, executables),
+        executables: executables as u32,
+    }
+}
+
+/// A control word on DST and NUM.
+fn aimed(word: u32, dst: usize, num: usize) -> u32 {
+    word | (dst as u32) << 10 | num as u32
+}
+
+fn register(number: usize) -> u32 {
+    (number as u32) << 22
+}
+
+fn main_only(words: Vec<u32>) -> Content {
+    Content {
+        endmain: words.len(),
+        words,
+        ..Content::default()
+    }
+}
+
+/// Document 01's five words.
+fn example() -> Vec<u32> {
+    vec![0x4c00_0000, 0x9cc0_0c00, 0x0222_5100, NOP, END]
+}
+
+/// ADD, MOV, CMP and MAD, one after another, and END.
+fn plain(count: usize) -> Vec<u32> {
+    let kinds = [0x0222_5100, 0x4e20_5000, 0xbaa2_5100, 0xf104_9460];
+    let plain = kinds.iter().copied().cycle().take(count - 1);
+    plain.chain([END]).collect()
+}
+
+/// P10's shape: two LOOPs over the same 61 words.
+fn in_two_loops(body: Vec<u32>) -> Vec<u32> {
+    let last = 1 + body.len();
+    let mut words = vec![aimed(LOOP, last, 0); 2];
+    words.extend(body);
+    words.push(END);
+    words
+}
+
+/// 20 IFs with one word in each part, from word 2 on, and a NOP.
+fn branches() -> Vec<u32> {
+    let mut words = Vec::new();
+    for n in 0..20 {
+        let dst = 2 + words.len() + 2;
+        words.extend([aimed(IFU, dst, 1) | register(n % 16), NOP, NOP]);
+    }
+    words.push(NOP);
+    words
+}
+
+/// Where the innermost region of `calls_over` starts: after main and two others.
+const INNERMOST: usize = 26 + 25 + 24;
+
+/// Calls 25·25·24 deep: main makes 25 calls of a region of 25 calls of a region of 24 calls of the innermost region.
+fn calls_over(innermost: Vec<u32>) -> Content {
+    let mut words = vec![aimed(CALL, 26, 25); 25];
+    words.push(END);
+    words.extend([aimed(CALL, 26 + 25, 24); 25]);
+    words.extend([aimed(CALL, INNERMOST, innermost.len()); 24]);
+    words.extend(innermost);
+    Content {
+        words,
+        endmain: 26,
+        ..Content::default()
+    }
+}
+
+/// 254 jumps, taken, each to the next word. The last of the 255 words can be no good jump, so it is a NOP.
+fn jumps_on() -> Vec<u32> {
+    let mut words: Vec<u32> = (1..255)
+        .map(|next| aimed(JMPU, INNERMOST + next, 0) | register(1))
+        .collect();
+    words.push(NOP);
+    words
+}
+
+/// 254 jumps, not taken, each to the last of the 255 words.
+fn jumps_far() -> Vec<u32> {
+    let mut words = vec![aimed(JMPU, INNERMOST + 254, 0); 254];
+    words.push(NOP);
+    words
+}
+
+/// Vector constants over all registers, with exponents from 1 to 126.
+fn vectors(count: usize) -> Content {
+    let mut constants = Vec::new();
+    for n in 0..count as u32 {
+        put32(&mut constants, 2 | (n % 96) << 16);
+        for component in 0..4 {
+            put32(&mut constants, (1 + (n + component) % 126) << 16 | n);
+        }
+    }
+    Content {
+        constants,
+        ..main_only(vec![END])
+    }
+}
+
+/// Labels at word 0, each with a name of its own of 15 letters and a 00 byte.
+fn labels(count: usize) -> Content {
+    let mut labels = Vec::new();
+    let mut symbols = Vec::new();
+    for n in 0..count {
+        for number in [n, 0, 1, symbols.len()] {
+            put32(&mut labels, number as u32);
+        }
+        symbols.extend(format!("label{n:010}\0").bytes());
+    }
+    Content {
+        labels,
+        symbols,
+        ..main_only(vec![END])
+    }
+}
+
+/// Header, DVLP, the DVLEs, then the words, one descriptor and the tables.
+fn library(content: &Content, executables: usize) -> Vec<u8> {
+    let dvlp = 8 + 4 * executables;
+    let dvles: Vec<usize> = (0..executables).map(|n| dvlp + 40 + 64 * n).collect();
+    let mut file = vec![0; dvlp + 40 + 64 * executables];
+    file[..4].copy_from_slice(b"DVLB");
+    set32(&mut file, 4, executables as u32);
+    file[dvlp..dvlp + 4].copy_from_slice(b"DVLP");
+    for (n, &dvle) in dvles.iter().enumerate() {
+        set32(&mut file, 8 + 4 * n, dvle as u32);
+        file[dvle..dvle + 4].copy_from_slice(b"DVLE");
+        set32(&mut file, dvle + 0x0c, content.endmain as u32);
+        set32(&mut file, dvle + 0x10, 0x0001_0001);
+    }
+    table(&mut file, dvlp, dvlp + 0x08, content.words.len());
+    for &word in &content.words {
+        put32(&mut file, word);
+    }
+    table(&mut file, dvlp, dvlp + 0x10, 1);
+    put32(&mut file, 0x0d86_c36f);
+    put32(&mut file, 0x0f);
+    share(&mut file, &dvles, 0x18, &content.constants, 20);
+    share(&mut file, &dvles, 0x20, &content.labels, 16);
+    share(&mut file, &dvles, 0x38, &content.symbols, 1);
+    file
+}
+
+/// One table for all executables, at the end of the file.
+fn share(file: &mut Vec<u8>, dvles: &[usize], field: usize, entries: &[u8], size: usize) {
+    for &dvle in dvles {
+        table(file, dvle, dvle + field, entries.len() / size);
+    }
+    file.extend(entries);
+}
