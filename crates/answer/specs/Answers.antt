@@ -9,7 +9,12 @@ pub data Answer (A : Type 0) : Type 0 where
   given : A → Answer A
   refused : ℕ → ℕ → Answer A
 
--- '29, then 30, come after the whole check'. 29: 'executable or constant number not there', of so many; else what follows
+-- the values of another answer; its refusal stays
+abbrev pub mapAnswer : {A B : Type 0} → (A → B) → Answer A → Answer B
+mapAnswer f (given a) = given (f a)
+mapAnswer f (refused number place) = refused number place
+
+-- '29, then 30, come after the whole check'. 29: 'executable or constant number not there', where `count` are there; else what follows
 abbrev pub orMissing : {A : Type 0} → ℕ → ℕ → Answer A → Answer A
 orMissing index count a = cond (ltb index count) a (refused 29 0)
 

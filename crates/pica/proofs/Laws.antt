@@ -1,13 +1,13 @@
 -- Laws of numbers in a list. Assumes nothing.
 use mathlib.Core.Path.{_≡_, refl, sym, ap, _∙_}
 use mathlib.Core.Bool.{Bool, true, false, _&&_}
-use mathlib.Core.List.{List, [], _∷_, _++_}
-use Prim.Native.Nat.{ℕ, zero, suc, _+_, _≤_, _<_}
+use mathlib.Core.List.{List, [], _∷_}
+use Prim.Native.Nat.{ℕ, _+_, _≤_, _<_}
 use native.Mathlib.Numerals.{add-one}
 use native.Mathlib.Omega.{arith}
 use lib.Dec.{eqb}
-use lib.ListN.{length, getD, set, take, drop, length-append, length-take, length-drop}
-use lib.Seq.{sets, take-suc, drop-cons, getD-take, length-take-le, take-all}
+use lib.ListN.{length, getD, set, take, drop, drop-of-length-le}
+use lib.Seq.{sets, take-suc, drop-cons, getD-take, length-take-le}
 use borrow.Author.Tests.{ne-eqb}
 use Rattle.pica.specs.Words.{zeros}
 use Rattle.verifier.proofs.Lists.{sets-append}
@@ -33,10 +33,4 @@ module _ (l : List ℕ) (long : 8 ≤ length l) (i : ℕ) where
   not-zero h e = rw (split h, ne-eqb (getD l i 0) 0 e)
 
   pub none-left : 8 ≤ i → zeros (drop i (take 8 l)) ≡ true
-  none-left h = ap zeros (drop-past i (take 8 l) (omega (arith, eight)))
-    where
-      drop-past : (k : ℕ) (xs : List ℕ) → length xs ≤ k → drop k xs ≡ []
-      drop-past zero [] g = refl
-      drop-past (suc k) [] g = refl
-      drop-past zero (x ∷ xs) g = absurd (omega arith)
-      drop-past (suc k) (x ∷ xs) g = drop-past k xs (omega arith)
+  none-left h = ap zeros (drop-of-length-le (take 8 l) {i = i} (omega (arith, eight)))

@@ -1,4 +1,5 @@
 pub mod Laws
-pub mod Told
+pub mod Answers
 pub mod Words
 pub mod Trials
+pub mod Order

@@ -10,7 +10,8 @@ use lib.Seq.{take-suc, length-take-le}
 use borrow.Author.Tests.{le-leb, lt-leb, leb-true, eqb-true}
 use Rattle.answer.specs.Answers.{Answer, given, refused}
 use Rattle.instruction.proofs.RoundTrip.{encode-decode, decode-encode}
-use Rattle.instruction.specs.Words.{decodeOf, encodeOf}
+use Rattle.instruction.specs.Operations.{tag}
+use Rattle.instruction.specs.Words.{decodeOf, formatFor, encodeOf}
 use Rattle.instruction.specs.declared.decoding.Fields.{Fields}
 use Rattle.instruction.specs.declared.decoding.Fields.the-variants.{Format0, Format1, Format1i, Format1u, Format1c, Format2, Format3, Format4, Format5, Format5i}
 use Rattle.pica.specs.Words.{formatNumber, fieldNumbers, eightNumbers, numberedBy, fieldsBy, zeros, encodeNumbers}
@@ -121,3 +122,16 @@ told-encoded format l w e = by (leb format 9) (leb 8 (length l)) (zeros rest) re
     by true true false x y z g = absurd (let q : _≡_ {A = ℕ} 0 1 = cc in omega arith)
     by true false c x y z g = absurd (let q : _≡_ {A = ℕ} 0 1 = cc in omega arith)
     by false b c x y z g = absurd (let q : _≡_ {A = ℕ} 0 1 = cc in omega arith)
+
+-- the formats are numbered as decoding tells them apart, from 0
+pub format-tag : (f : Fields) → tag (formatFor f) ≡ suc (formatNumber f)
+format-tag (Format0 op rest) = refl
+format-tag (Format1 op desc src2 src1 idx1 dst) = refl
+format-tag (Format1i op desc src2 src1 idx2 dst) = refl
+format-tag (Format1u op desc rest src1 idx1 dst) = refl
+format-tag (Format1c op desc src2 src1 idx1 cmpy cmpx) = refl
+format-tag (Format2 op num rest dst condop refy refx) = refl
+format-tag (Format3 op num rest dst id) = refl
+format-tag (Format4 op rest winding primemit vtxid) = refl
+format-tag (Format5 op desc src3 src2 src1 idx2 dst) = refl
+format-tag (Format5i op desc src3 src2 src1 idx3 dst) = refl

@@ -1,4 +1,4 @@
 pub mod Replies
 pub mod Libraries
-pub mod Running
+pub mod Executables
 pub mod Words

@@ -5,7 +5,7 @@ use mathlib.Core.Bool.{Bool, true, _&&_, cond}
 use mathlib.Core.List.{List, [], _∷_, _++_}
 use lib.Dec.{eqb, leb}
 use lib.ListN.{length, getD, take, drop, replicate}
-use Rattle.answer.specs.Answers.{Answer, given, refused}
+use Rattle.answer.specs.Answers.{Answer, refused, mapAnswer}
 use Rattle.instruction.specs.Words.{decodeOf, encodeOf}
 use Rattle.instruction.specs.declared.decoding.Fields.{Fields}
 use Rattle.instruction.specs.declared.decoding.Fields.the-variants.{Format0, Format1, Format1i, Format1u, Format1c, Format2, Format3, Format4, Format5, Format5i}
@@ -45,13 +45,12 @@ eightNumbers f = fieldNumbers f ++ replicate (8 - length (fieldNumbers f)) 0
 abbrev pub numberedBy : Fields → Numbered
 numberedBy f = record { format = formatNumber f; count = length (fieldNumbers f); numbers = eightNumbers f }
 
-abbrev pub decoding : Answer Fields → Answer Reply
-decoding (given f) = given (reply (formatNumber f) (eightNumbers f))
-decoding (refused n p) = refused n p
+abbrev pub wordReply : Fields → Reply
+wordReply f = reply (formatNumber f) (eightNumbers f)
 
--- '9, then 30'
+-- '9, then 30 if out is shorter than 8'
 abbrev pub decodeReply : ℕ → ℕ → Answer Reply
-decodeReply word size = fitted size (decoding (decodeOf word))
+decodeReply word size = fitted size (mapAnswer wordReply (decodeOf word))
 
 -- the fields of a format among numbers in the same order
 abbrev pub fieldsBy : ℕ → List ℕ → Fields

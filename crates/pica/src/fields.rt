@@ -12,64 +12,52 @@ pub struct Numbered {
     pub numbers: [u32; 8],
 }
 
-pub(crate) fn numbers_of(fields: Fields) -> Numbered
-    ensures { λ r. ⌜ r ≡ numberedBy fields ⌝ }
+fn of_format(format: u32, count: usize, numbers: [u32; 8]) -> Numbered
+    ensures { λ r. ⌜ r ≡ record { format = format; count = count; numbers = numbers } ⌝ }
 {
-    match fields {
-        Fields::Format0(op, rest) => Numbered {
-            format: 0,
-            count: 2,
-            numbers: [op, rest, 0, 0, 0, 0, 0, 0],
-        },
-        Fields::Format1(op, desc, src2, src1, idx1, dst) => Numbered {
-            format: 1,
-            count: 6,
-            numbers: [op, desc, src2, src1, idx1, dst, 0, 0],
-        },
-        Fields::Format1i(op, desc, src2, src1, idx2, dst) => Numbered {
-            format: 2,
-            count: 6,
-            numbers: [op, desc, src2, src1, idx2, dst, 0, 0],
-        },
-        Fields::Format1u(op, desc, rest, src1, idx1, dst) => Numbered {
-            format: 3,
-            count: 6,
-            numbers: [op, desc, src1, idx1, dst, rest, 0, 0],
-        },
-        Fields::Format1c(op, desc, src2, src1, idx1, cmpy, cmpx) => Numbered {
-            format: 4,
-            count: 7,
-            numbers: [op, desc, src2, src1, idx1, cmpy, cmpx, 0],
-        },
-        Fields::Format2(op, num, rest, dst, condop, refy, refx) => Numbered {
-            format: 5,
-            count: 7,
-            numbers: [op, num, dst, condop, refy, refx, rest, 0],
-        },
-        Fields::Format3(op, num, rest, dst, id) => Numbered {
-            format: 6,
-            count: 5,
-            numbers: [op, num, dst, id, rest, 0, 0, 0],
-        },
-        Fields::Format4(op, rest, winding, primemit, vtxid) => Numbered {
-            format: 7,
-            count: 5,
-            numbers: [op, winding, primemit, vtxid, rest, 0, 0, 0],
-        },
-        Fields::Format5(op, desc, src3, src2, src1, idx2, dst) => Numbered {
-            format: 8,
-            count: 7,
-            numbers: [op, desc, src3, src2, src1, idx2, dst, 0],
-        },
-        Fields::Format5i(op, desc, src3, src2, src1, idx3, dst) => Numbered {
-            format: 9,
-            count: 7,
-            numbers: [op, desc, src3, src2, src1, idx3, dst, 0],
-        },
+    Numbered {
+        format,
+        count,
+        numbers,
     }
 }
 
-// The fields that a format has among eight numbers. A format over 9 reads as 9; whoever asks has refused it.
+pub(crate) fn field_numbers(fields: Fields) -> Numbered
+    ensures { λ r. ⌜ r ≡ numberedBy fields ⌝ }
+{
+    match fields {
+        Fields::Format0(op, rest) => of_format(0, 2, [op, rest, 0, 0, 0, 0, 0, 0]),
+        Fields::Format1(op, desc, src2, src1, idx1, dst) => {
+            of_format(1, 6, [op, desc, src2, src1, idx1, dst, 0, 0])
+        }
+        Fields::Format1i(op, desc, src2, src1, idx2, dst) => {
+            of_format(2, 6, [op, desc, src2, src1, idx2, dst, 0, 0])
+        }
+        Fields::Format1u(op, desc, rest, src1, idx1, dst) => {
+            of_format(3, 6, [op, desc, src1, idx1, dst, rest, 0, 0])
+        }
+        Fields::Format1c(op, desc, src2, src1, idx1, cmpy, cmpx) => {
+            of_format(4, 7, [op, desc, src2, src1, idx1, cmpy, cmpx, 0])
+        }
+        Fields::Format2(op, num, rest, dst, condop, refy, refx) => {
+            of_format(5, 7, [op, num, dst, condop, refy, refx, rest, 0])
+        }
+        Fields::Format3(op, num, rest, dst, id) => {
+            of_format(6, 5, [op, num, dst, id, rest, 0, 0, 0])
+        }
+        Fields::Format4(op, rest, winding, primemit, vtxid) => {
+            of_format(7, 5, [op, winding, primemit, vtxid, rest, 0, 0, 0])
+        }
+        Fields::Format5(op, desc, src3, src2, src1, idx2, dst) => {
+            of_format(8, 7, [op, desc, src3, src2, src1, idx2, dst, 0])
+        }
+        Fields::Format5i(op, desc, src3, src2, src1, idx3, dst) => {
+            of_format(9, 7, [op, desc, src3, src2, src1, idx3, dst, 0])
+        }
+    }
+}
+
+// The fields that a format has among the first eight numbers. A format over 9 reads as 9; whoever asks has refused it.
 pub(crate) fn fields_of(format: u32, n: &[u32]) -> Fields
     requires { ⌜ 8 ≤ length (now n) ⌝ }
     ensures { λ r. ⌜ r ≡ fieldsBy format (now (n .entry)) ⌝ }

@@ -22,7 +22,7 @@ fn write_fault(number: u32) {
         5 => write(b"file ends inside the header or the DVLP\n"),
         6 => write(b"no DVLP after the header\n"),
         7 => write(b"no words or over 512, or over 128 descriptors\n"),
-        8 => write(b"DVLP table unaligned or outside the file, or opcode table overlapping\n"),
+        8 => write(b"DVLP table unaligned, outside the file or overlapping the opcode table\n"),
         9 => write(b"unknown opcode\n"),
         10 => write(b"compare operator 6 or 7\n"),
         11 => write(b"descriptor ID not in the table\n"),
@@ -41,7 +41,7 @@ fn write_fault(number: u32) {
         24 => write(b"bad bounds of an IF, a LOOP or a CALL\n"),
         25 => write(b"one more CALL, IF or LOOP open than allowed\n"),
         26 => write(b"bad jump\n"),
-        27 => write(b"total over 4,000,000 steps\n"),
+        27 => write(b"total over 4,000,000\n"),
         28 => write(b"main's last word not END, or not an own word of main\n"),
         _ => write(b"\n"),
     }

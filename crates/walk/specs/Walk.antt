@@ -56,9 +56,12 @@ module _ (file : List ℕ) (index : ℕ) (bools ints truth : List ℕ) where
   unfoldable pub walkFetches : Answer (List ℕ)
   walkFetches = walkIn (checkOf file)
 
-  -- where steps are answered, it is the whole run: inside the tables and the limits, within the total, and its last word is END
+  -- the whole run: inside the tables and the limits, within the total, and its last word is END; it is the run where steps are answered
+  abbrev pub WholeWalk : Type 0
+  WholeWalk = Whole (codeFor file) (settingsOf bools ints truth) 4 8 2 (reportOf file (programOf file) index .total) (startFor file index)
+
   abbrev pub RunsWhole : Walked → Type 0
-  RunsWhole r = (n : ℕ) → r ≡ walked.Steps n → Whole (codeFor file) (settingsOf bools ints truth) 4 8 2 (reportOf file (programOf file) index .total) (startFor file index)
+  RunsWhole r = (n : ℕ) → r ≡ walked.Steps n → WholeWalk
 
 -- 'it answers the steps made'
 abbrev pub stepsOf : Answer (List ℕ) → Answer ℕ

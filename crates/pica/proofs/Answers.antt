@@ -1,14 +1,16 @@
--- The answers of the calls, from those of the functions that they make. A refusal's number is never 0, so that the upper half of an answer tells. Assumes nothing.
+-- The answers of the calls, from those of the functions that they call. A refusal's number is never 0, so that the upper half of an answer tells. Assumes nothing.
 use mathlib.Core.Path.{_≡_, refl, sym, ap, subst, _∙_}
 use mathlib.Core.Bool.{Bool, true, false, _||_, cond, not}
 use mathlib.Core.List.{List}
-use Prim.Native.Nat.{ℕ, _+_, _*_, _^_, _≤_, _<_}
+use Prim.Native.Nat.{ℕ, _+_, _*_, _/_, _^_, _≤_, _<_}
 use native.Mathlib.Omega.{arith}
 use lib.Dec.{T, ltb}
 use lib.Ieee.{binary32, ofBits, isNan}
 use lib.Ieee.Bits.{nanBits-is}
-use lib.ListN.{length}
-use Rattle.answer.specs.Answers.{Answer, given, refused, orMissing, orShort}
+use lib.ListN.{length, take, drop}
+use lib.Seq.{sets-eq, take-at}
+use borrow.Author.Tests.{ltb-false}
+use Rattle.answer.specs.Answers.{Answer, given, refused, mapAnswer, orMissing, orShort}
 use Rattle.answer.specs.declared.Fault.{Fault}
 use Rattle.answer.specs.declared.Fault.the-variants.{Nothing, At}
 use Rattle.container.specs.Executable.{executableOf}
@@ -32,26 +34,41 @@ use Rattle.verifier.specs.declared.verdict.Library.{Library}
 use Rattle.verifier.specs.declared.verdict.Report.{Report}
 use Rattle.verifier.specs.declared.verdict.Reported.{Reported}
 use Rattle.verifier.specs.declared.verdict.Reported.the-variants as reported
-use Rattle.walk.specs.Constants.{constantBy, entryConstant, constantIn, constantAnswer, handedAs}
+use Rattle.walk.specs.Constants.{constantBy, entryConstant, constantIn, constantAnswer, Hands, handedAs}
 use Rattle.walk.specs.Walk.{fetchesIn, runOf, settingsOf, walkIn, walkFetches, RunsWhole, stepsOf, writtenTo, walkedAs}
 use Rattle.walk.specs.declared.constants.Handed.{Handed}
 use Rattle.walk.specs.declared.constants.Handed.the-variants as handed
 use Rattle.walk.specs.declared.walking.Walked.{Walked}
 use Rattle.walk.specs.declared.walking.Walked.the-variants as walked
-use Rattle.pica.specs.Libraries.{accepting, ExactlyClean, numbersOf, reporting, reportReply, KeepsToTotal}
-use Rattle.pica.specs.Replies.{Reply, reply, numberFor, fitted, valueIn, bufferAfter}
-use Rattle.pica.specs.Running.{NoNans, numbersFor, handing, WalksWhole}
+use Rattle.pica.specs.Libraries.{acceptance, ExactlyClean, reportNumbers, reportReply, KeepsToTotal}
+use Rattle.pica.specs.Replies.{upperOf, lowerOf, Answered, Reply, reply, valueOf, fitted, bufferAfter}
+use Rattle.pica.specs.Executables.{NoNans, constantNumbers, constantReply, HandsNo18, WalksWhole}
 
 apart : {A : Type 0} → _≡_ {A = ℕ} 0 1 → A
 apart z = absurd (omega arith)
 
+pub answered : {a b : Answer ℕ} (v : ℕ) → a ≡ b → Answered b v → Answered a v
+answered v e x = rw e x
+
 -- an answer and a buffer, of a call that replies
 module _ (old out : List ℕ) (v : ℕ) where
   abbrev pub Replies : Answer Reply → Type 0
-  Replies a = (v ≡ numberFor (valueIn (fitted (length old) a))) × (out ≡ bufferAfter old (fitted (length old) a))
+  Replies a = Answered (mapAnswer valueOf (fitted (length old) a)) v × (out ≡ bufferAfter old (fitted (length old) a))
 
   pub same-reply : {a b : Answer Reply} → a ≡ b → Replies a → Replies b
   same-reply e r = subst Replies e r
+
+-- the numbers of a reply are the first of the buffer, unless it is too short for them
+module _ (old out : List ℕ) (v n : ℕ) (ns : List ℕ) where
+  first-numbers : Replies old out v (given (reply n ns)) → v < 2 ^ 32 → take (length ns) out ≡ ns
+  first-numbers r h = by (ltb (length old) (length ns)) refl (r .0) (r .1)
+    where
+      by : (b : Bool) → ltb (length old) (length ns) ≡ b → Answered (mapAnswer valueOf (orShort b (given (reply n ns)))) v → out ≡ bufferAfter old (orShort b (given (reply n ns)))
+          → take (length ns) out ≡ ns
+      by true e a o = absurd (omega (arith, a .number))
+      by false e a o =
+          let room : 0 + length ns ≤ length old = omega (arith, ltb-false (length old) (length ns) e) in
+          rw (o, sets-eq ns old 0 room) (take-at ns (drop (0 + length ns) old) (length ns) refl)
 
 module _ (file : List ℕ) where
   -- what is refused after the check is 29 or 30
@@ -71,39 +88,19 @@ module _ (file : List ℕ) where
     given-number a e = apart (cc)
 
   -- the check
-  pub check-accepted : {r : Checked} {l : Library} → checkedAs r ≡ checkOf file → AcceptsClean file r → r ≡ checked.Accepted l → (0 ≡ numberFor (accepting (checkOf file))) × ExactlyClean file 0
-  check-accepted {r} {l} e x h =
+  pub check-accepted : {r : Checked} {l : Library} {v : ℕ} → checkedAs r ≡ checkOf file → AcceptsClean file r → r ≡ checked.Accepted l → Answered (given 0) v → Answered (acceptance file) v × ExactlyClean file v
+  check-accepted {r} {l} {v} e x h w =
       let a : checkOf file ≡ given l = sym e ∙ ap checkedAs h in
-      (rw a, record { clean = λ z. x .clean l h; accepted = λ c. refl })
+      (rw a w, record { clean = λ z. x .clean l h; accepted = λ c. w .number })
 
-  pub check-refused : {r : Checked} {n q v : ℕ} → checkedAs r ≡ checkOf file → AcceptsClean file r → r ≡ checked.Refused n q → v ≡ numberFor (refused n q)
-      → (v ≡ numberFor (accepting (checkOf file))) × ExactlyClean file v
+  pub check-refused : {r : Checked} {n q v : ℕ} → checkedAs r ≡ checkOf file → AcceptsClean file r → r ≡ checked.Refused n q → Answered (refused n q) v
+      → Answered (acceptance file) v × ExactlyClean file v
   check-refused {r} {n} {q} {v} e x h w =
       let a : checkOf file ≡ refused n q = sym e ∙ ap checkedAs h in
-      (w ∙ rw a, record { clean = λ z. absurd (omega (arith, refusal-number file a .0)); accepted = λ c. let y = x .accepted c in apart (cc) })
+      (rw a w, record { clean = λ z. absurd (omega (arith, w .number, refusal-number file a .0)); accepted = λ c. let y = x .accepted c in apart (cc) })
 
   -- the report
   module _ (index : ℕ) where
-    the-library : {l : Library} → checkOf file ≡ given l → l ≡ libraryOf file
-    unfolding checkOf
-    the-library {l} e = by (wholeFault file) e
-      where
-        by : (f : Fault) → answerBy f (libraryOf file) ≡ given l → l ≡ libraryOf file
-        by (At n q) g = apart (cc)
-        by Nothing g = cc
-
-    the-report : {t : Report} → reportAnswer file index ≡ given t → t ≡ reportOf file (programOf file) index
-    unfolding reportAnswer
-    the-report {t} e = by (checkOf file) refl e
-      where
-        there : (l : Library) (b : Bool) → cond b (given (reportOf file (l .program) index)) (refused 29 0) ≡ given t → t ≡ reportOf file (l .program) index
-        there l true g = cc
-        there l false g = apart (cc)
-
-        by : (a : Answer Library) → checkOf file ≡ a → reportIn file index a ≡ given t → t ≡ reportOf file (programOf file) index
-        by (refused n q) c g = apart (cc)
-        by (given l) c g = rw (the-library c) at (there l (ltb index (l .executables)) g)
-
     report-number : {n q : ℕ} → reportAnswer file index ≡ refused n q → 1 ≤ n
     unfolding reportAnswer
     report-number {n} {q} e = by (checkOf file) refl e
@@ -115,19 +112,19 @@ module _ (file : List ℕ) where
     -- the call's three promises
     abbrev pub ReportTold : List ℕ → List ℕ → ℕ → Type 0
     ReportTold old out v =
-        (v ≡ numberFor (valueIn (reportReply file index (length old)))) × ((out ≡ bufferAfter old (reportReply file index (length old))) × KeepsToTotal file index v)
+        Answered (mapAnswer valueOf (reportReply file index (length old))) v × ((out ≡ bufferAfter old (reportReply file index (length old))) × KeepsToTotal file index v out)
 
-    pub report-given : (old out ns : List ℕ) (v : ℕ) {r : Reported} {t : Report} → reportedAs r ≡ reportAnswer file index → Promises file index r → r ≡ reported.Given t → ns ≡ numbersOf t
+    pub report-given : (old out ns : List ℕ) (v : ℕ) {r : Reported} {t : Report} → reportedAs r ≡ reportAnswer file index → Promises file index r → r ≡ reported.Given t → ns ≡ reportNumbers t
         → Replies old out v (given (reply 8 ns)) → ReportTold old out v
     report-given old out ns v {r} {t} e p h s y =
         let a : reportAnswer file index ≡ given t = sym e ∙ ap reportedAs h in
-        let (answers, writes) = same-reply old out v {a = given (reply 8 ns)} {b = reporting (reportAnswer file index)} (rw (a, s)) y in
-        (answers, (writes, λ z. rw (the-report a) at (p t h)))
+        let (answers, writes) = same-reply old out v {a = given (reply 8 ns)} {b = mapAnswer (λ u. reply 8 (reportNumbers u)) (reportAnswer file index)} (rw (a, s)) y in
+        (answers, (writes, λ z. record { report = t; numbers = rw s at (first-numbers old out v 8 ns y (omega arith)); promised = p t h }))
 
-    pub report-refused : (old : List ℕ) (v : ℕ) {r : Reported} {n q : ℕ} → reportedAs r ≡ reportAnswer file index → r ≡ reported.Refused n q → v ≡ numberFor (refused n q) → ReportTold old old v
+    pub report-refused : (old : List ℕ) (v : ℕ) {r : Reported} {n q : ℕ} → reportedAs r ≡ reportAnswer file index → r ≡ reported.Refused n q → Answered (refused n q) v → ReportTold old old v
     report-refused old v {r} {n} {q} e h w =
         let a : reportAnswer file index ≡ refused n q = sym e ∙ ap reportedAs h in
-        (w ∙ rw a, (rw a, λ z. absurd (omega (arith, report-number a))))
+        (rw a w, (rw a, λ z. absurd (omega (arith, w .number, report-number a))))
 
   -- the walk
   module _ (index : ℕ) (bools ints truth : List ℕ) where
@@ -153,15 +150,16 @@ module _ (file : List ℕ) where
     steps-refused {n} {q} (refused m p) e = let x : _≡_ {A = Answer ℕ} (refused m p) (refused n q) = e in cc
 
     abbrev pub WalkTold : List ℕ → List ℕ → ℕ → Type 0
-    WalkTold old out v = (v ≡ numberFor (stepsOf fetches)) × ((out ≡ writtenTo old fetches) × WalksWhole file index bools ints truth v)
+    WalkTold old out v = Answered (stepsOf fetches) v × ((out ≡ writtenTo old fetches) × WalksWhole file index bools ints truth v)
 
-    pub walk-done : (old out : List ℕ) {r : Walked} {n : ℕ} → walkedAs r ≡ stepsOf fetches → out ≡ writtenTo old fetches → RunsWhole file index bools ints truth r → r ≡ walked.Steps n → WalkTold old out n
-    walk-done old out {r} {n} e o w h = let a : stepsOf fetches ≡ given n = sym e ∙ ap walkedAs h in (rw a, (o, λ z. w n h))
+    pub walk-done : (old out : List ℕ) {r : Walked} {n v : ℕ} → walkedAs r ≡ stepsOf fetches → out ≡ writtenTo old fetches → RunsWhole file index bools ints truth r → r ≡ walked.Steps n → Answered (given n) v
+        → WalkTold old out v
+    walk-done old out {r} {n} e o w h x = let a : stepsOf fetches ≡ given n = sym e ∙ ap walkedAs h in (rw a x, (o, λ z. w n h))
 
-    pub walk-refused : (old out : List ℕ) {r : Walked} {n q v : ℕ} → walkedAs r ≡ stepsOf fetches → out ≡ writtenTo old fetches → r ≡ walked.Refused n q → v ≡ numberFor (refused n q) → WalkTold old out v
+    pub walk-refused : (old out : List ℕ) {r : Walked} {n q v : ℕ} → walkedAs r ≡ stepsOf fetches → out ≡ writtenTo old fetches → r ≡ walked.Refused n q → Answered (refused n q) v → WalkTold old out v
     walk-refused old out {r} {n} {q} {v} e o h w =
         let a : stepsOf fetches ≡ refused n q = sym e ∙ ap walkedAs h in
-        (w ∙ rw a, (o, λ z. absurd (omega (arith, walk-number (steps-refused fetches a)))))
+        (rw a w, (o, λ z. absurd (omega (arith, w .number, walk-number (steps-refused fetches a)))))
 
   -- a constant
   module _ (index n : ℕ) where
@@ -199,11 +197,20 @@ module _ (file : List ℕ) where
     handed-numbers e h k = no-nans (sym e ∙ ap handedAs h ∙ rw k)
 
     abbrev pub ConstantTold : List ℕ → List ℕ → ℕ → Type 0
-    ConstantTold old out v = Replies old out v (handing (constantAnswer file index n))
+    ConstantTold old out v =
+        Answered (mapAnswer valueOf (constantReply file index n (length old))) v × ((out ≡ bufferAfter old (constantReply file index n (length old))) × HandsNo18 file v)
 
-    pub constant-handed : (old out : List ℕ) (v kind : ℕ) (ns : List ℕ) {r : Handed} {c : Constant} → handedAs r ≡ constantAnswer file index n → r ≡ handed.Constant c → reply kind ns ≡ numbersFor c
+    pub constant-handed : (old out : List ℕ) (v kind : ℕ) (ns : List ℕ) {r : Handed} {c : Constant} → handedAs r ≡ constantAnswer file index n → r ≡ handed.Constant c → reply kind ns ≡ constantNumbers c
         → Replies old out v (given (reply kind ns)) → ConstantTold old out v
-    constant-handed old out v kind ns e h k y = same-reply old out v (ap given k ∙ ap handing (sym (ap handedAs h) ∙ e)) y
+    constant-handed old out v kind ns e h k y =
+        let (answers, writes) = same-reply old out v (ap given k ∙ ap (mapAnswer constantNumbers) (sym (ap handedAs h) ∙ e)) y in
+        (answers, (writes, λ l c z. no-18 (ltb (length old) (length ns)) (y .0 .upper) z))
+      where
+        no-18 : (b : Bool) → v / 2 ^ 32 ≡ upperOf (mapAnswer valueOf (orShort b (given (reply kind ns)))) → v / 2 ^ 32 ≡ 18 → ⊥
+        no-18 true u z = omega arith
+        no-18 false u z = omega arith
 
-    pub constant-refused : (old : List ℕ) (v : ℕ) {r : Handed} {m q : ℕ} → handedAs r ≡ constantAnswer file index n → r ≡ handed.Refused m q → v ≡ numberFor (refused m q) → ConstantTold old old v
-    constant-refused old v e h w = same-reply old old v (ap handing (sym (ap handedAs h) ∙ e)) (w, refl)
+    pub constant-refused : (old : List ℕ) (v : ℕ) {r : Handed} {m q : ℕ} → handedAs r ≡ constantAnswer file index n → Hands file r → r ≡ handed.Refused m q → Answered (refused m q) v → ConstantTold old old v
+    constant-refused old v {r} {m} {q} e never h w =
+        let (answers, writes) = same-reply old old v {a = refused m q} {b = mapAnswer constantNumbers (constantAnswer file index n)} (ap (mapAnswer constantNumbers) (sym (ap handedAs h) ∙ e)) (w, refl) in
+        (answers, (writes, λ l c z. never l c q (h ∙ ap (λ k. handed.Refused k q) (sym (w .upper) ∙ z))))
