@@ -1,6 +1,7 @@
 pub mod Answered
 pub mod Depth
 pub mod Looks
+pub mod Again
 pub mod Machine
 pub mod Marks
 pub mod OwnSteps

@@ -46,7 +46,7 @@ module _ (C : Code) (a : Allowed) (x : Opens) (w p E : ℕ) where
 
   abbrev pub AllFit : Look → Type 0
   AllFit (Refuse n) = Unit {0}
-  AllFit Next = Unit {0}
+  AllFit (Next v) = Unit {0}
   AllFit (One r next) = Fits r × Onward (next .0)
   AllFit (Two r s next) = Fits r × Fits s × Onward (next .0)
 

@@ -95,7 +95,7 @@ module _ (C : Code) (a : Allowed) (x : Opens) (w p E : ℕ) (t : ℕ) (m : List 
   -- with total t and marks m, the word itself counted and marked
   unfoldable pub asked : Look → Scanned
   asked (Refuse n) = scanned (Stop n (wordAddress p)) m
-  asked Next = replay C R (visits x w (p + 1) E) t m
+  asked (Next v) = replay C R (visits x w (p + 1) E) t m
   asked (One r next) = replayThen C R (replay C R (partVisits r) t m) (visits x w (next .0) E)
   asked (Two r s next) = replayThen C R (replayThen C R (replay C R (partVisits r) t m) (partVisits s)) (visits x w (next .0) E)
 
@@ -165,7 +165,7 @@ module _ (C : Code) (a : Allowed) (part : Part) (p t : ℕ) (m : List Bool) (h :
       unfolding asked
       scan-refuse e = scan-word e
 
-      pub scan-next : Next ≡ lookOf C (rulesOf a) x w p E → scanOf C a (partOf x w (p + 1) E) (t + w) m′ ≡ fromHere
+      pub scan-next : {v : ℕ} → Next v ≡ lookOf C (rulesOf a) x w p E → scanOf C a (partOf x w (p + 1) E) (t + w) m′ ≡ fromHere
       unfolding asked
       scan-next e = scan-word e
 

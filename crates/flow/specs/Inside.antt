@@ -1,11 +1,11 @@
 -- What the functions inside this crate compute, for their contracts: the steps of the check, one word at a time. The rules are in Own and Visits.
 -- Assumes nothing.
 use mathlib.Core.Path.{_≡_}
-use Prim.Native.Nat.{ℕ, zero, suc, _+_, _*_, _^_, _≤_}
+use Prim.Native.Nat.{ℕ, zero, suc, _+_, _*_, _^_, _≤_, _<_}
 use mathlib.Core.Bool.{Bool, true, not, _&&_}
 use mathlib.Core.List.{List, [], _∷_}
 use lib.Dec.{leb, ltb}
-use lib.ListN.{set}
+use lib.ListN.{length, getD, set}
 use Rattle.answer.specs.Faults.{faultIf, orElse}
 use Rattle.answer.specs.declared.Fault.{Fault}
 use Rattle.answer.specs.declared.Fault.the-variants.{Nothing}
@@ -65,23 +65,28 @@ lookCall R x w p words dst num =
     (One (partOf (inCall x) w dst (dst + num)) (wordAddress (p + 1)))
 
 unfoldable pub lookJump : Code → ℕ → ℕ → ℕ → Look
-lookJump C p E dst = unless (faultIf (not (ltb p dst && (ltb dst E && has (ownWords C (p + 1) E) dst))) 26 p) Next
+lookJump C p E dst = unless (faultIf (not (ltb p dst && (ltb dst E && has (ownWords C (p + 1) E) dst))) 26 p) (Next (dst + 1))
 
--- the parts of a word without a fault
+-- the parts of a word without a fault. One without parts goes on in every region that ends at the number or later; a BREAK, which needs a LOOP around it, has 513, past every end
 abbrev pub partsOf : Control → Opens → ℕ → ℕ → Look
-partsOf Unknown x w p = Next
-partsOf Plain x w p = Next
-partsOf Emit x w p = Next
-partsOf End x w p = Next
-partsOf (Break c) x w p = Next
+partsOf Unknown x w p = Next 0
+partsOf Plain x w p = Next 0
+partsOf Emit x w p = Next 0
+partsOf End x w p = Next 0
+partsOf (Break c) x w p = Next 513
 partsOf (If c dst num) x w p = Two (partOf (inIf x) w (p + 1) (dst .0)) (partOf (inIf x) w (dst .0) (dst .0 + num)) (wordAddress (dst .0 + num))
 partsOf (Loop r dst) x w p = One (partOf (inLoop x) (w * 256) (p + 1) (dst .0 + 1)) (wordAddress (dst .0 + 1))
 partsOf (Call c dst num) x w p = One (partOf (inCall x) w (dst .0) (dst .0 + num)) (wordAddress (p + 1))
-partsOf (Jump c dst num) x w p = Next
+partsOf (Jump c dst num) x w p = Next (dst .0 + 1)
 
 -- a visited word: its fault, or its parts
 unfoldable pub lookOf : Code → Rules → Opens → ℕ → ℕ → ℕ → Look
 lookOf C R x w p E = unless (faultAt C R x p E) (partsOf (C .control p) x w p)
+
+-- what is known of words that were visited: where a word's number is at most the end of a region, it goes on there, whatever is open
+pub record Seen (C : Code) (a : Allowed) (seen : List ℕ) : Type 0 where
+  pub long : length seen ≡ 512
+  pub goes : (p : ℕ) (x : Opens) (w E : ℕ) → getD seen p 0 ≤ E → E ≤ C .words → p < E → Next (getD seen p 0) ≡ lookOf C (rulesOf a) x w p E
 
 -- a region weighs 256 for each LOOP open, multiplied; never more than two are
 abbrev pub Weighs : Allowed → Part → Type 0

@@ -81,7 +81,8 @@ fn measure(words: &[u32], emits: bool, main: u32, endmain: u32) -> Flow
         to: WordAddress(endmain),
     };
     let mut marks = [false; 512];
-    match scan_part(words, allowed, &mut marks, part, 0) {
+    let mut seen = [513u32; 512];
+    match scan_part(words, allowed, &mut marks, &mut seen, part, 0) {
         Scan::Stop(number, word) => Flow::Refused {
             number,
             word: word.0,

@@ -3,7 +3,7 @@ ghost use mathlib.Core.Path.{_≡_};
 ghost use Prim.Native.Nat.{_≤_};
 ghost use lib.ListN.{length};
 ghost use Rattle.flow.specs.Flow.{codeOf};
-ghost use Rattle.flow.specs.Inside.{Weighs, scanned, scanOf};
+ghost use Rattle.flow.specs.Inside.{Seen, Weighs, scanned, scanOf};
 use crate::look::Allowed;
 use crate::look::Look;
 use crate::look::Part;
@@ -16,16 +16,18 @@ pub enum Scan {
     Stop(u32, WordAddress),
 }
 
-// Counts, marks and tests each word of a region, and goes into the parts that it asks for. `total` is what was counted before.
+// Counts, marks and tests each word of a region, and goes into the parts that it asks for. `total` is what was counted before. `seen` has for each word from which
+// end of a region on it is known to go on, so that a word is decoded and a jump's target searched once, however often they are visited.
 pub(crate) fn scan_part(
     words: &[u32],
     allowed: Allowed,
     marks: &mut [bool; 512],
+    seen: &mut [u32; 512],
     part: Part,
     total: u32,
 ) -> Scan
-    requires { ⌜ (part .to .0 ≤ length (now words)) × (length (now words) ≤ 512) × Weighs allowed part ⌝ }
-    ensures { λ r. ⌜ scanned r (now (marks .exit)) ≡ scanOf (codeOf (now (words .entry)) 0) allowed part total (now (marks .entry)) ⌝ }
+    requires { ⌜ (part .to .0 ≤ length (now words)) × (length (now words) ≤ 512) × Weighs allowed part × Seen (codeOf (now words) 0) allowed (now seen) ⌝ }
+    ensures { λ r. ⌜ (scanned r (now (marks .exit)) ≡ scanOf (codeOf (now (words .entry)) 0) allowed part total (now (marks .entry))) × Seen (codeOf (now (words .entry)) 0) allowed (now (seen .exit)) ⌝ }
 {
     let end = part.to.0;
     let mut p = part.from.0;
@@ -38,15 +40,20 @@ pub(crate) fn scan_part(
         t = sum as u32;
         let at = p as usize;
         marks[at] = true;
+        if seen[at] <= end {
+            p += 1;
+            continue;
+        }
         match look_at(words, allowed, part.opens, part.weight, p, end) {
             Look::Refuse(number) => {
                 return Scan::Stop(number, WordAddress(p));
             }
-            Look::Next => {
+            Look::Next(known) => {
+                seen[at] = known;
                 p += 1;
             }
             Look::One(inner, next) => {
-                let first = scan_part(words, allowed, marks, inner, t);
+                let first = scan_part(words, allowed, marks, seen, inner, t);
                 let Scan::Go(t1) = first else {
                     return first;
                 };
@@ -54,11 +61,11 @@ pub(crate) fn scan_part(
                 p = next.0;
             }
             Look::Two(yes, no, next) => {
-                let first = scan_part(words, allowed, marks, yes, t);
+                let first = scan_part(words, allowed, marks, seen, yes, t);
                 let Scan::Go(t1) = first else {
                     return first;
                 };
-                let second = scan_part(words, allowed, marks, no, t1);
+                let second = scan_part(words, allowed, marks, seen, no, t1);
                 let Scan::Go(t2) = second else {
                     return second;
                 };
