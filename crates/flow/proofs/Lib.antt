@@ -9,6 +9,7 @@ pub mod Places
 pub mod Region
 pub mod Stops
 pub mod Replay
+pub mod Passing
 pub mod Tests
 pub mod Trials
 pub mod Weights

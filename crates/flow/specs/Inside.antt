@@ -1,8 +1,8 @@
 -- What the functions inside this crate compute, for their contracts: the steps of the check, one word at a time. The rules are in Own and Visits.
 -- Assumes nothing.
 use mathlib.Core.Path.{_≡_}
-use Prim.Native.Nat.{ℕ, zero, suc, _+_, _*_, _^_, _≤_, _<_}
-use mathlib.Core.Bool.{Bool, true, not, _&&_}
+use Prim.Native.Nat.{ℕ, zero, suc, _+_, _*_, _-_, _^_, _≤_, _<_, max}
+use mathlib.Core.Bool.{Bool, true, false, not, _&&_}
 use mathlib.Core.List.{List, [], _∷_}
 use lib.Dec.{leb, ltb}
 use lib.ListN.{length, getD, set}
@@ -21,6 +21,7 @@ use Rattle.flow.specs.declared.look.Look.{Look}
 use Rattle.flow.specs.declared.look.Look.the-variants.{Refuse, Next, One, Two}
 use Rattle.flow.specs.declared.look.Opens.{Opens}
 use Rattle.flow.specs.declared.look.Part.{Part}
+use Rattle.flow.specs.declared.scan.Deep.{Deep}
 use Rattle.flow.specs.declared.scan.Scan.{Scan}
 use Rattle.flow.specs.declared.scan.Scan.the-variants as scan
 use Rattle.flow.specs.declared.own.After.{After}
@@ -122,3 +123,34 @@ countTo (suc n) f = countTo n f + pick (f n) 1 0
 -- the visits of a part
 abbrev pub scanOf : Code → Allowed → Part → ℕ → List Bool → Scanned
 scanOf C a r t m = replay C (rulesOf a) (trace C (rulesOf a) (r .opens) (r .weight) (r .from .0) (r .to .0) .visits) t m
+
+-- a region that was passed once is passed wherever it fits. What it opens at most beyond what is open around it; both are allowed
+abbrev pub beyond : Deep → Opens → Deep
+beyond d x = record { calls = d .calls - x .calls; ifs = d .ifs - x .ifs; loops = d .loops - x .loops }
+
+abbrev pub Over : Deep → Opens → Type 0
+Over d x = (x .calls ≤ d .calls) × (x .ifs ≤ d .ifs) × (x .loops ≤ d .loops)
+
+abbrev pub Room : Allowed → Opens → Deep → Type 0
+Room a x d = (x .calls + d .calls ≤ a .calls) × (x .ifs + d .ifs ≤ a .ifs) × (x .loops + d .loops ≤ a .loops)
+
+-- every word that is marked in m is marked in m′
+pub record Covers (m m′ : List Bool) : Type 0 where
+  pub marked : (q : ℕ) → getD m q false ≡ true → getD m′ q false ≡ true
+
+-- the region from p to E costs k without the weight, opens d at most, and its words are marked in m: where it fits, visiting it adds weight × cost to the total and no mark
+pub record Passes (C : Code) (a : Allowed) (looped : Bool) (p E k : ℕ) (d : Deep) (m : List Bool) : Type 0 where
+  pub again : (x : Opens) (w t : ℕ) (m′ : List Bool) → x .looped ≡ looped → Room a x d → t + w * k ≤ a .most → Covers m m′ → scanOf C a (partOf x w p E) t m′ ≡ scanned (scan.Go (t + w * k)) m′
+
+-- what a part that was passed leaves: its cost in the total, the most that was open in it, and that it is passed wherever it fits
+pub record Left (C : Code) (a : Allowed) (r : Part) (before after : ℕ) (d : Deep) (m : List Bool) : Type 0 where
+  pub cost : ℕ
+  pub adds : after ≡ before + r .weight * cost
+  pub over : Over d (r .opens)
+  pub passes : Passes C a (r .opens .looped) (r .from .0) (r .to .0) cost (beyond d (r .opens)) m
+
+abbrev pub deepest : Deep → Deep → Deep
+deepest d e = record { calls = max (d .calls) (e .calls); ifs = max (d .ifs) (e .ifs); loops = max (d .loops) (e .loops) }
+
+abbrev pub deepOf : Opens → Deep
+deepOf x = record { calls = x .calls; ifs = x .ifs; loops = x .loops }

@@ -11,4 +11,5 @@ pub use look::Look;
 pub use look::Opens;
 pub use look::Part;
 pub use own::After;
+pub use scan::Deep;
 pub use scan::Scan;

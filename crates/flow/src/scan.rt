@@ -16,6 +16,13 @@ pub enum Scan {
     Stop(u32, WordAddress),
 }
 
+// The most calls, IFs and LOOPs that were open at once.
+pub struct Deep {
+    pub calls: u32,
+    pub ifs: u32,
+    pub loops: u32,
+}
+
 // Counts, marks and tests each word of a region, and goes into the parts that it asks for. `total` is what was counted before. `seen` has for each word from which
 // end of a region on it is known to go on, so that a word is decoded and a jump's target searched once, however often they are visited.
 pub(crate) fn scan_part(

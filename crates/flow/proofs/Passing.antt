@@ -1,0 +1,351 @@
+-- A region that the check passes with some opens, weight, total and marks is passed with any others that fit, at the same cost, and adds the same words to the marks: own word by own word.
+-- Assumes nothing.
+use mathlib.Core.Path.{_≡_, refl, sym, ap, _∙_}
+use mathlib.Core.Bool.{Bool, true, false, not, _&&_, _||_}
+use mathlib.Core.List.{List, [], _∷_}
+use Prim.Native.Nat.{ℕ, zero, suc, _+_, _*_, _-_, _≤_, _<_}
+use native.Mathlib.Nat.{le-max-left, le-max-right, mul-assoc}
+use native.Mathlib.Omega.{arith}
+use lib.Dec.{leb, ltb, eqb}
+use lib.ListN.{length, getD, set}
+use lib.Seq.{getD-set-same, getD-set-other, ext-getD}
+use borrow.Author.Tests.{lt-leb, leb-false, eqb-true, eqb-false}
+use Rattle.answer.specs.declared.Fault.{Fault}
+use Rattle.answer.specs.declared.Fault.the-variants.{Nothing, At}
+use Rattle.binary.specs.Addresses.{wordAddress}
+use Rattle.binary.specs.declared.WordAddress.{WordAddress}
+use Rattle.instruction.specs.declared.flow_control.Control.{Control}
+use Rattle.instruction.specs.declared.flow_control.Control.the-variants.{Unknown, Plain, Emit, End, Break, If, Loop, Call, Jump}
+use Rattle.flow.specs.Inside.{rulesOf, unless, partOf, partsOf, lookOf, scanned, scanOf, beyond, Over, Room, Covers, Passes, Left, deepest, deepOf}
+use Rattle.flow.specs.Rules.{Code, Rules, inIf, inLoop, inCall, pick}
+use Rattle.flow.specs.Visits.{faultAt}
+use Rattle.flow.specs.declared.look.Allowed.{Allowed}
+use Rattle.flow.specs.declared.look.Look.{Look}
+use Rattle.flow.specs.declared.look.Look.the-variants.{Refuse, Next, One, Two}
+use Rattle.flow.specs.declared.look.Opens.{Opens}
+use Rattle.flow.specs.declared.look.Part.{Part}
+use Rattle.flow.specs.declared.scan.Deep.{Deep}
+use Rattle.flow.specs.declared.scan.Scan.{Scan}
+use Rattle.flow.specs.declared.scan.Scan.the-variants.{Go, Stop}
+use Rattle.flow.proofs.Depth.{Passed, fault-none}
+use Rattle.flow.proofs.Tests.{false-not-true}
+use Rattle.flow.proofs.Replay.{scan-end, scan-next, scan-one, scan-two}
+
+apart : {A : Type 0} → _≡_ {A = ℕ} 0 1 → A
+apart z = absurd (omega arith)
+
+-- marks
+pub covers-self : (m : List Bool) → Covers m m
+covers-self m = record { marked = λ q e. e }
+
+pub covers-trans : {m₁ m₂ m₃ : List Bool} → Covers m₁ m₂ → Covers m₂ m₃ → Covers m₁ m₃
+covers-trans f g = record { marked = λ q e. g .marked q (f .marked q e) }
+
+pub covers-set : (m : List Bool) (p : ℕ) → Covers m (set m p true)
+covers-set m p = record { marked = λ q e. by q e (eqb q p) refl }
+  where
+    inside : (l : List Bool) (i : ℕ) → getD l i false ≡ true → i < length l
+    inside [] i h = absurd (false-not-true h)
+    inside (x ∷ l) zero h = omega arith
+    inside (x ∷ l) (suc i) h = omega (arith, inside l i h)
+
+    by : (q : ℕ) → getD m q false ≡ true → (b : Bool) → eqb q p ≡ b → getD (set m p true) q false ≡ true
+    by q e true z = let y = eqb-true q p z in rw y (getD-set-same m p true false (rw y at (inside m q e)))
+    by q e false z = getD-set-other m p q true false (eqb-false q p z) ∙ e
+
+-- a mark that is there already
+marked : (m m′ : List Bool) (p : ℕ) → p < length m → Covers (set m p true) m′ → set m′ p true ≡ m′
+marked m m′ p h c = same m′ p (c .marked p (getD-set-same m p true false h))
+  where
+    same : (l : List Bool) (i : ℕ) → getD l i false ≡ true → set l i true ≡ l
+    same [] i e = refl
+    same (x ∷ l) zero e = ap (λ y. y ∷ l) (sym e)
+    same (x ∷ l) (suc i) e = ap (λ y. x ∷ y) (same l i e)
+
+-- what a word without a fault asks for in other surroundings of the same region
+module _ (C : Code) (a : Allowed) (x x′ : Opens) (w w′ p E : ℕ) (same : x′ .looped ≡ x .looped) where
+  abbrev R : Rules
+  R = rulesOf a
+
+  pub look-next : {v : ℕ} → Next v ≡ lookOf C R x w p E → Next v ≡ lookOf C R x′ w′ p E
+  unfolding lookOf faultAt
+  look-next {v} e = by (faultAt C R x p E) refl e
+    where
+      on : (i : Control) → C .control p ≡ i → Passed C R i x p E → Next v ≡ partsOf i x w p → Next v ≡ unless (faultAt C R x′ p E) (partsOf (C .control p) x′ w′ p)
+      on Unknown z o g = rw z g
+      on Plain z o g = rw z g
+      on Emit z o g = rw (z, o .emits) g
+      on End z o g = rw z g
+      on (Break c) z o g = rw (z, same, o .breaks) g
+      on (If c dst num) z o g = apart (cc)
+      on (Loop r dst) z o g = apart (cc)
+      on (Call c dst num) z o g = apart (cc)
+      on (Jump c dst num) z o g = rw (z, o .jumps) g
+
+      by : (f : Fault) → faultAt C R x p E ≡ f → Next v ≡ unless f (partsOf (C .control p) x w p) → Next v ≡ unless (faultAt C R x′ p E) (partsOf (C .control p) x′ w′ p)
+      by (At n q) f g = apart (cc)
+      by Nothing f g = on (C .control p) refl (fault-none C R x p E f) g
+
+-- a part in other surroundings: the same region, weighing and opening as much more
+record Shift (f : ℕ) (x x′ : Opens) (w w′ : ℕ) (r r′ : Part) : Type 0 where
+  weight : r′ .weight ≡ w′ * f
+  from : r′ .from ≡ r .from
+  to : r′ .to ≡ r .to
+  looped : r′ .opens .looped ≡ r .opens .looped
+  calls : (r′ .opens .calls + x .calls ≡ r .opens .calls + x′ .calls) × (x .calls ≤ r .opens .calls)
+  ifs : (r′ .opens .ifs + x .ifs ≡ r .opens .ifs + x′ .ifs) × (x .ifs ≤ r .opens .ifs)
+  loops : (r′ .opens .loops + x .loops ≡ r .opens .loops + x′ .loops) × (x .loops ≤ r .opens .loops)
+
+abbrev Below : Deep → Deep → Type 0
+Below d e = (d .calls ≤ e .calls) × (d .ifs ≤ e .ifs) × (d .loops ≤ e .loops)
+
+-- room for a region is room for its parts
+part-room : (a : Allowed) {f : ℕ} {x x′ : Opens} {w w′ : ℕ} {r r′ : Part} (d e : Deep) → Shift f x x′ w w′ r r′ → Over d (r .opens) → Below d e → Room a x′ (beyond e x) → Room a (r′ .opens) (beyond d (r .opens))
+part-room a d e s o b h = (omega (arith, s .calls, o, b, h), omega (arith, s .ifs, o, b, h), omega (arith, s .loops, o, b, h))
+
+-- a LOOP's body, in which a LOOP is open, weighs as often as its turns are counted; a called region, in which none is, weighs no more
+abbrev turnsOf : Part → ℕ
+turnsOf r = pick (r .opens .looped) 256 1
+
+record OneAsked (C : Code) (a : Allowed) (x x′ : Opens) (w w′ p E : ℕ) (r : Part) (next : WordAddress) : Type 0 where
+  part : Part
+  shift : Shift (turnsOf r) x x′ w w′ r part
+  asks : One part next ≡ lookOf C (rulesOf a) x′ w′ p E
+
+record TwoAsked (C : Code) (a : Allowed) (x x′ : Opens) (w w′ p E : ℕ) (r s : Part) (next : WordAddress) : Type 0 where
+  first : Part
+  second : Part
+  shift : Shift 1 x x′ w w′ r first
+  shift′ : Shift 1 x x′ w w′ s second
+  asks : Two first second next ≡ lookOf C (rulesOf a) x′ w′ p E
+
+module _ (C : Code) (a : Allowed) (x x′ : Opens) (w w′ p E : ℕ) (same-loop : x′ .looped ≡ x .looped) (d : Deep) (room : Room a x′ (beyond d x)) where
+  look-one : {r : Part} {next : WordAddress} → Over d (r .opens) → One r next ≡ lookOf C (rulesOf a) x w p E → OneAsked C a x x′ w w′ p E r next
+  unfolding lookOf faultAt
+  look-one {r} {next} over e = by (faultAt C (rulesOf a) x p E) refl e
+    where
+      on : (i : Control) → C .control p ≡ i → Passed C (rulesOf a) i x p E → One r next ≡ partsOf i x w p → OneAsked C a x x′ w w′ p E r next
+      on Unknown z o g = apart (cc)
+      on Plain z o g = apart (cc)
+      on Emit z o g = apart (cc)
+      on End z o g = apart (cc)
+      on (Break c) z o g = apart (cc)
+      on (If c dst num) z o g = apart (cc)
+      on (Loop q dst) z o g =
+          let same : r ≡ partOf (inLoop x) (w * 256) (p + 1) (dst .0 + 1) = cc in
+          let n : next ≡ wordAddress (dst .0 + 1) = cc in
+          let deep : Over d (inLoop x) = rw same at over in
+          record {
+            part = partOf (inLoop x′) (w′ * 256) (p + 1) (dst .0 + 1);
+            shift = rw same (record { weight = refl; from = refl; to = refl; looped = refl; calls = (omega arith, omega arith); ifs = (omega arith, omega arith); loops = (omega arith, omega arith) });
+            asks = rw (z, n, o .bounds, lt-leb (a .loops) (x′ .loops) (omega (arith, deep, room)));
+          }
+      on (Call c dst num) z o g =
+          let same : r ≡ partOf (inCall x) w (dst .0) (dst .0 + num) = cc in
+          let n : next ≡ wordAddress (p + 1) = cc in
+          let deep : Over d (inCall x) = rw same at over in
+          record {
+            part = partOf (inCall x′) w′ (dst .0) (dst .0 + num);
+            shift = rw same (record { weight = omega arith; from = refl; to = refl; looped = refl; calls = (omega arith, omega arith); ifs = (omega arith, omega arith); loops = (omega arith, omega arith) });
+            asks = rw (z, n, o .bounds, lt-leb (a .calls) (x′ .calls) (omega (arith, deep, room)));
+          }
+      on (Jump c dst num) z o g = apart (cc)
+
+      by : (f : Fault) → faultAt C (rulesOf a) x p E ≡ f → One r next ≡ unless f (partsOf (C .control p) x w p) → OneAsked C a x x′ w w′ p E r next
+      by (At n q) f g = apart (cc)
+      by Nothing f g = on (C .control p) refl (fault-none C (rulesOf a) x p E f) g
+
+  look-two : {r s : Part} {next : WordAddress} → Over d (r .opens) → Two r s next ≡ lookOf C (rulesOf a) x w p E → TwoAsked C a x x′ w w′ p E r s next
+  unfolding lookOf faultAt
+  look-two {r} {s} {next} over e = by (faultAt C (rulesOf a) x p E) refl e
+    where
+      on : (i : Control) → C .control p ≡ i → Passed C (rulesOf a) i x p E → Two r s next ≡ partsOf i x w p → TwoAsked C a x x′ w w′ p E r s next
+      on Unknown z o g = apart (cc)
+      on Plain z o g = apart (cc)
+      on Emit z o g = apart (cc)
+      on End z o g = apart (cc)
+      on (Break c) z o g = apart (cc)
+      on (If c dst num) z o g =
+          let same : r ≡ partOf (inIf x) w (p + 1) (dst .0) = cc in
+          let same′ : s ≡ partOf (inIf x) w (dst .0) (dst .0 + num) = cc in
+          let n : next ≡ wordAddress (dst .0 + num) = cc in
+          let deep : Over d (inIf x) = rw same at over in
+          record {
+            first = partOf (inIf x′) w′ (p + 1) (dst .0);
+            second = partOf (inIf x′) w′ (dst .0) (dst .0 + num);
+            shift = rw same (record { weight = omega arith; from = refl; to = refl; looped = same-loop; calls = (omega arith, omega arith); ifs = (omega arith, omega arith); loops = (omega arith, omega arith) });
+            shift′ = rw same′ (record { weight = omega arith; from = refl; to = refl; looped = same-loop; calls = (omega arith, omega arith); ifs = (omega arith, omega arith); loops = (omega arith, omega arith) });
+            asks = rw (z, n, o .bounds, lt-leb (a .ifs) (x′ .ifs) (omega (arith, deep, room)));
+          }
+      on (Loop q dst) z o g = apart (cc)
+      on (Call c dst num) z o g = apart (cc)
+      on (Jump c dst num) z o g = apart (cc)
+
+      by : (f : Fault) → faultAt C (rulesOf a) x p E ≡ f → Two r s next ≡ unless f (partsOf (C .control p) x w p) → TwoAsked C a x x′ w w′ p E r s next
+      by (At n q) f g = apart (cc)
+      by Nothing f g = on (C .control p) refl (fault-none C (rulesOf a) x p E f) g
+
+-- what a part weighs
+module _ (C : Code) (a : Allowed) (x : Opens) (w p E : ℕ) where
+  one-weight : {r : Part} {next : WordAddress} → One r next ≡ lookOf C (rulesOf a) x w p E → r .weight ≡ w * turnsOf r
+  unfolding lookOf
+  one-weight {r} {next} e = by (faultAt C (rulesOf a) x p E) e
+    where
+      on : (i : Control) → One r next ≡ partsOf i x w p → r .weight ≡ w * turnsOf r
+      on Unknown g = apart (cc)
+      on Plain g = apart (cc)
+      on Emit g = apart (cc)
+      on End g = apart (cc)
+      on (Break c) g = apart (cc)
+      on (If c dst num) g = apart (cc)
+      on (Loop q dst) g = let same : r ≡ partOf (inLoop x) (w * 256) (p + 1) (dst .0 + 1) = cc in rw same
+      on (Call c dst num) g = let same : r ≡ partOf (inCall x) w (dst .0) (dst .0 + num) = cc in rw same (omega arith)
+      on (Jump c dst num) g = apart (cc)
+
+      by : (f : Fault) → One r next ≡ unless f (partsOf (C .control p) x w p) → r .weight ≡ w * turnsOf r
+      by (At n q) g = apart (cc)
+      by Nothing g = on (C .control p) g
+
+  two-weights : {r s : Part} {next : WordAddress} → Two r s next ≡ lookOf C (rulesOf a) x w p E → (r .weight ≡ w) × (s .weight ≡ w)
+  unfolding lookOf
+  two-weights {r} {s} {next} e = by (faultAt C (rulesOf a) x p E) e
+    where
+      on : (i : Control) → Two r s next ≡ partsOf i x w p → (r .weight ≡ w) × (s .weight ≡ w)
+      on Unknown g = apart (cc)
+      on Plain g = apart (cc)
+      on Emit g = apart (cc)
+      on End g = apart (cc)
+      on (Break c) g = apart (cc)
+      on (If c dst num) g =
+          let same : r ≡ partOf (inIf x) w (p + 1) (dst .0) = cc in
+          let same′ : s ≡ partOf (inIf x) w (dst .0) (dst .0 + num) = cc in
+          (rw same, rw same′)
+      on (Loop q dst) g = apart (cc)
+      on (Call c dst num) g = apart (cc)
+      on (Jump c dst num) g = apart (cc)
+
+      by : (f : Fault) → Two r s next ≡ unless f (partsOf (C .control p) x w p) → (r .weight ≡ w) × (s .weight ≡ w)
+      by (At n q) g = apart (cc)
+      by Nothing g = on (C .control p) g
+
+-- the own words of a part before p, with total t and marks m after them: passed wherever they fit, at the same cost
+module _ (C : Code) (a : Allowed) (part : Part) (before : ℕ) where
+  abbrev X : Opens
+  X = part .opens
+
+  abbrev W : ℕ
+  W = part .weight
+
+  abbrev Z : ℕ
+  Z = part .to .0
+
+  pub record Prefix (p t : ℕ) (d : Deep) (m : List Bool) : Type 0 where
+    pub cost : ℕ
+    pub adds : t ≡ before + W * cost
+    pub over : Over d X
+    pub again : (x : Opens) (w u : ℕ) (m′ : List Bool) → x .looped ≡ X .looped → Room a x (beyond d X) → u + w * cost ≤ a .most → Covers m m′
+        → scanOf C a (partOf x w p Z) (u + w * cost) m′ ≡ scanOf C a (partOf x w (part .from .0) Z) u m′
+
+  pub prefix-none : (m : List Bool) → Prefix (part .from .0) before (deepOf X) m
+  prefix-none m =
+      record {
+        cost = 0;
+        adds = omega arith;
+        over = (omega arith, omega arith, omega arith);
+        again = λ x w u m′ same room fits c. let z : u + w * 0 ≡ u = omega arith in rw z;
+      }
+
+  module _ (h : Z ≤ C .words) {p t : ℕ} {d : Deep} {m : List Bool} (f : Prefix p t d m) where
+    -- all of it
+    pub prefix-end : Z ≤ p → Left C a part before t d m
+    prefix-end l =
+        record {
+          cost = f .cost;
+          adds = f .adds;
+          over = f .over;
+          passes = record {
+            again = λ x w u m′ same room fits c.
+                sym (f .again x w u m′ same room fits c) ∙ sym (scan-end C a (partOf x w p Z) p (u + w * f .cost) m′ h l)
+          };
+        }
+
+    module _ (l : p < Z) (n : p < length m) where
+      pub prefix-next : {v : ℕ} → Next v ≡ lookOf C (rulesOf a) X W p Z → Prefix (p + 1) (t + W) d (set m p true)
+      prefix-next e =
+          record {
+            cost = f .cost + 1;
+            adds = omega (arith, f .adds);
+            over = f .over;
+            again = λ x w u m′ same room fits c.
+                let sum : u + w * (f .cost + 1) ≡ u + w * f .cost + w = omega arith in
+                let step = scan-next C a (partOf x w p Z) p (u + w * f .cost) m′ h l (omega arith) (look-next C a X x W w p Z same e) in
+                let there = ap (λ y. scanOf C a (partOf x w (p + 1) Z) (u + w * f .cost + w) y) (sym (marked m m′ p n c)) in
+                rw sum (there ∙ step ∙ f .again x w u m′ same room (omega arith) (covers-trans (covers-set m p) c));
+          }
+
+      -- a part that was passed, in other surroundings
+      passed-there : (r r′ : Part) {k : ℕ} {x : Opens} {w b t₁ : ℕ} {m₁ : List Bool} (d₁ e : Deep) (u : ℕ) (m′ : List Bool) → Shift k X x W w r r′ → (g : Left C a r b t₁ d₁ m₁) → Below d₁ e → Room a x (beyond e X)
+          → u + r′ .weight * g .cost ≤ a .most → Covers m₁ m′ → scanned (Go (u + r′ .weight * g .cost)) m′ ≡ scanOf C a r′ u m′
+      passed-there r r′ d₁ e u m′ s g below room fits c =
+          sym (rw (s .from, s .to) (g .passes .again (r′ .opens) (r′ .weight) u m′ (s .looped) (part-room a d₁ e s (g .over) below room) fits c))
+
+      deep-left : (d₀ d₁ : Deep) → Below d₀ (deepest d₀ d₁)
+      deep-left d₀ d₁ = (le-max-left (d₀ .calls) (d₁ .calls), le-max-left (d₀ .ifs) (d₁ .ifs), le-max-left (d₀ .loops) (d₁ .loops))
+
+      deep-right : (d₀ d₁ : Deep) → Below d₁ (deepest d₀ d₁)
+      deep-right d₀ d₁ = (le-max-right (d₀ .calls) (d₁ .calls), le-max-right (d₀ .ifs) (d₁ .ifs), le-max-right (d₀ .loops) (d₁ .loops))
+
+      -- room for the deeper is room for the less deep
+      less-room : (x : Opens) (d₁ e : Deep) → Below d₁ e → Room a x (beyond e X) → Room a x (beyond d₁ X)
+      less-room x d₁ e b h = (omega (arith, b, h), omega (arith, b, h), omega (arith, b, h))
+
+      over-more : (d₁ e : Deep) (y : Opens) → Over d₁ y → Below d₁ e → Over e y
+      over-more d₁ e y o b = (omega (arith, o, b), omega (arith, o, b), omega (arith, o, b))
+
+      pub prefix-one : {r : Part} {next : WordAddress} {t₁ : ℕ} {d₁ : Deep} {m₁ : List Bool} → One r next ≡ lookOf C (rulesOf a) X W p Z → Left C a r (t + W) t₁ d₁ m₁ → Covers (set m p true) m₁
+          → Prefix (next .0) t₁ (deepest d d₁) m₁
+      prefix-one {r} {next} {t₁} {d₁} {m₁} e g grown =
+          let deep = deepest d d₁ in
+          record {
+            cost = f .cost + 1 + turnsOf r * g .cost;
+            adds = omega (arith, f .adds, g .adds, ap (λ y. y * g .cost) (one-weight C a X W p Z e));
+            over = over-more d deep X (f .over) (deep-left d d₁);
+            again = λ x w u m′ same room fits c.
+                let o = look-one C a X x W w p Z same deep room (over-more d₁ deep (r .opens) (g .over) (deep-right d d₁)) e in
+                let s = o .shift in
+                let v = u + w * f .cost in
+                let weigh : o .part .weight * g .cost ≡ w * (turnsOf r * g .cost) = ap (λ y. y * g .cost) (s .weight) ∙ mul-assoc w (turnsOf r) (g .cost) in
+                let sum : u + w * (f .cost + 1 + turnsOf r * g .cost) ≡ v + w + o .part .weight * g .cost = omega (arith, weigh) in
+                let there = passed-there r (o .part) d₁ deep (v + w) m′ s g (deep-right d d₁) room (omega (arith, sum)) c in
+                let marks = ap (λ y. scanOf C a (o .part) (v + w) y) (sym (marked m m′ p n (covers-trans grown c))) in
+                let step = scan-one C a (partOf x w p Z) p v m′ h l (omega (arith, sum)) (o .asks) (there ∙ marks) refl in
+                rw sum (step ∙ f .again x w u m′ same (less-room x d deep (deep-left d d₁) room) (omega (arith, sum)) (covers-trans (covers-set m p) (covers-trans grown c)));
+          }
+
+      pub prefix-two : {r s : Part} {next : WordAddress} {t₁ t₂ : ℕ} {d₁ d₂ : Deep} {m₁ m₂ : List Bool} → Two r s next ≡ lookOf C (rulesOf a) X W p Z → Left C a r (t + W) t₁ d₁ m₁ → Left C a s t₁ t₂ d₂ m₂
+          → Covers (set m p true) m₁ → Covers m₁ m₂ → Prefix (next .0) t₂ (deepest (deepest d d₁) d₂) m₂
+      prefix-two {r} {s} {next} {t₁} {t₂} {d₁} {d₂} {m₁} {m₂} e g g′ grown grown′ =
+          let deep₁ = deepest d d₁ in
+          let deep = deepest deep₁ d₂ in
+          let (heavy, heavy′) = two-weights C a X W p Z e in
+          let b : Below d deep = below-trans d deep₁ deep (deep-left d d₁) (deep-left deep₁ d₂) in
+          let b₁ : Below d₁ deep = below-trans d₁ deep₁ deep (deep-right d d₁) (deep-left deep₁ d₂) in
+          record {
+            cost = f .cost + 1 + g .cost + g′ .cost;
+            adds = omega (arith, f .adds, g .adds, g′ .adds, ap (λ y. y * g .cost) heavy, ap (λ y. y * g′ .cost) heavy′);
+            over = over-more d deep X (f .over) b;
+            again = λ x w u m′ same room fits c.
+                let o = look-two C a X x W w p Z same deep room (over-more d₁ deep (r .opens) (g .over) b₁) e in
+                let v = u + w * f .cost in
+                let weigh : o .first .weight * g .cost ≡ w * g .cost = ap (λ y. y * g .cost) (o .shift .weight) ∙ omega arith in
+                let weigh′ : o .second .weight * g′ .cost ≡ w * g′ .cost = ap (λ y. y * g′ .cost) (o .shift′ .weight) ∙ omega arith in
+                let sum : u + w * (f .cost + 1 + g .cost + g′ .cost) ≡ v + w + o .first .weight * g .cost + o .second .weight * g′ .cost = omega (arith, weigh, weigh′) in
+                let there = passed-there r (o .first) d₁ deep (v + w) m′ (o .shift) g b₁ room (omega (arith, sum)) (covers-trans grown′ c) in
+                let there′ = passed-there s (o .second) d₂ deep (v + w + o .first .weight * g .cost) m′ (o .shift′) g′ (deep-right deep₁ d₂) room (omega (arith, sum)) c in
+                let marks = ap (λ y. scanOf C a (o .first) (v + w) y) (sym (marked m m′ p n (covers-trans grown (covers-trans grown′ c)))) in
+                let step = scan-two C a (partOf x w p Z) p v m′ h l (omega (arith, sum)) (o .asks) (there ∙ marks) refl there′ refl in
+                rw sum (step ∙ f .again x w u m′ same (less-room x d deep b room) (omega (arith, sum)) (covers-trans (covers-set m p) (covers-trans grown (covers-trans grown′ c))));
+          }
+        where
+          below-trans : (d₀ d₃ d₄ : Deep) → Below d₀ d₃ → Below d₃ d₄ → Below d₀ d₄
+          below-trans d₀ d₃ d₄ i j = (omega (arith, i, j), omega (arith, i, j), omega (arith, i, j))
