@@ -31,7 +31,7 @@ pub enum Fields {
 }
 
 // MAD and MADI have fewer bits for the descriptor ID, and so reach the first 32 descriptors only.
-const MAD_DESC_BITS: u32 = 5;
+pub(crate) const MAD_DESC_BITS: u32 = 5;
 
 pub enum Decoded {
     Known(Fields),

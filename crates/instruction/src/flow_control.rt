@@ -1,10 +1,10 @@
 // What a word does to control flow.
 ghost use mathlib.Core.Path.{_≡_};
-ghost use Rattle.instruction.specs.Control.{ofFormat0, ofFormat2, ofFormat3, controlIn, controlOf};
-use crate::decoding::Decoded;
-use crate::decoding::Fields;
-use crate::decoding::decode;
+ghost use Rattle.instruction.specs.Control.{ofFormat0, ofFormat2, ofFormat3, controlOf};
+use crate::operation::Format;
+use crate::operation::format_of;
 use binary::WordAddress;
+use bits::field;
 
 // When a word of control flow is taken: always; by the outcome of comparisons, which comes from outside; by a bool register.
 pub enum Condition {
@@ -68,28 +68,27 @@ fn of_format_3(op: u32, num: u32, dst: u32, id: u32) -> Control
     }
 }
 
-fn control_in(fields: Fields) -> Control
-    ensures { λ r. ⌜ r ≡ controlIn fields ⌝ }
-{
-    match fields {
-        Fields::Format0(op, _) => of_format_0(op),
-        Fields::Format1(_, _, _, _, _, _) => Control::Plain,
-        Fields::Format1i(_, _, _, _, _, _) => Control::Plain,
-        Fields::Format1u(_, _, _, _, _, _) => Control::Plain,
-        Fields::Format1c(_, _, _, _, _, _, _) => Control::Plain,
-        Fields::Format2(op, num, _, dst, _, _, _) => of_format_2(op, num, dst),
-        Fields::Format3(op, num, _, dst, id) => of_format_3(op, num, dst, id),
-        Fields::Format4(_, _, _, _, _) => Control::Emit,
-        Fields::Format5(_, _, _, _, _, _, _) => Control::Plain,
-        Fields::Format5i(_, _, _, _, _, _, _) => Control::Plain,
-    }
-}
-
+// Goes by the format, and reads only the fields that tell something of control flow.
 pub fn control_of(word: u32) -> Control
     ensures { λ r. ⌜ r ≡ controlOf word ⌝ }
 {
-    match decode(word) {
-        Decoded::Known(fields) => control_in(fields),
-        Decoded::Unknown => Control::Unknown,
+    let op = field(word, 26, 6);
+    match format_of(op) {
+        Format::Unlisted => Control::Unknown,
+        Format::F0 => of_format_0(op),
+        Format::F1 => Control::Plain,
+        Format::F1i => Control::Plain,
+        Format::F1u => Control::Plain,
+        Format::F1c => Control::Plain,
+        Format::F2 => of_format_2(op, field(word, 0, 8), field(word, 10, 12)),
+        Format::F3 => of_format_3(
+            op,
+            field(word, 0, 8),
+            field(word, 10, 12),
+            field(word, 22, 4),
+        ),
+        Format::F4 => Control::Emit,
+        Format::F5 => Control::Plain,
+        Format::F5i => Control::Plain,
     }
 }

@@ -1,10 +1,10 @@
 // What a word uses beside its registers: an operand descriptor, compare operators. The parts of an operand descriptor.
 ghost use mathlib.Core.Path.{_≡_};
 ghost use Prim.Native.Nat.{_<_};
-ghost use Rattle.instruction.specs.Operands.{descriptorIn, descriptorOf, operatorsIn, operatorsOf, sourceAt, maskOf, source1Of, source2Of, source3Of};
-use crate::decoding::Decoded;
-use crate::decoding::Fields;
-use crate::decoding::decode;
+ghost use Rattle.instruction.specs.Operands.{descriptorOf, operatorsOf, sourceAt, maskOf, source1Of, source2Of, source3Of};
+use crate::decoding::MAD_DESC_BITS;
+use crate::operation::Format;
+use crate::operation::format_of;
 use bits::field;
 
 // The ID of the operand descriptor that a word uses. An unknown word uses none.
@@ -13,29 +13,22 @@ pub enum DescriptorId {
     Unused,
 }
 
-fn descriptor_in(fields: Fields) -> DescriptorId
-    ensures { λ r. ⌜ r ≡ descriptorIn fields ⌝ }
-{
-    match fields {
-        Fields::Format0(_, _) => DescriptorId::Unused,
-        Fields::Format1(_, desc, _, _, _, _) => DescriptorId::Id(desc),
-        Fields::Format1i(_, desc, _, _, _, _) => DescriptorId::Id(desc),
-        Fields::Format1u(_, desc, _, _, _, _) => DescriptorId::Id(desc),
-        Fields::Format1c(_, desc, _, _, _, _, _) => DescriptorId::Id(desc),
-        Fields::Format2(_, _, _, _, _, _, _) => DescriptorId::Unused,
-        Fields::Format3(_, _, _, _, _) => DescriptorId::Unused,
-        Fields::Format4(_, _, _, _, _) => DescriptorId::Unused,
-        Fields::Format5(_, desc, _, _, _, _, _) => DescriptorId::Id(desc),
-        Fields::Format5i(_, desc, _, _, _, _, _) => DescriptorId::Id(desc),
-    }
-}
-
+// Goes by the format: DESC starts at bit 0, and that of MAD and MADI is shorter.
 pub fn descriptor_of(word: u32) -> DescriptorId
     ensures { λ r. ⌜ r ≡ descriptorOf word ⌝ }
 {
-    match decode(word) {
-        Decoded::Known(fields) => descriptor_in(fields),
-        Decoded::Unknown => DescriptorId::Unused,
+    match format_of(field(word, 26, 6)) {
+        Format::Unlisted => DescriptorId::Unused,
+        Format::F0 => DescriptorId::Unused,
+        Format::F1 => DescriptorId::Id(field(word, 0, 7)),
+        Format::F1i => DescriptorId::Id(field(word, 0, 7)),
+        Format::F1u => DescriptorId::Id(field(word, 0, 7)),
+        Format::F1c => DescriptorId::Id(field(word, 0, 7)),
+        Format::F2 => DescriptorId::Unused,
+        Format::F3 => DescriptorId::Unused,
+        Format::F4 => DescriptorId::Unused,
+        Format::F5 => DescriptorId::Id(field(word, 0, MAD_DESC_BITS)),
+        Format::F5i => DescriptorId::Id(field(word, 0, MAD_DESC_BITS)),
     }
 }
 
@@ -46,29 +39,22 @@ pub enum CompareOperators {
     None,
 }
 
-fn operators_in(fields: Fields) -> CompareOperators
-    ensures { λ r. ⌜ r ≡ operatorsIn fields ⌝ }
-{
-    match fields {
-        Fields::Format0(_, _) => CompareOperators::None,
-        Fields::Format1(_, _, _, _, _, _) => CompareOperators::None,
-        Fields::Format1i(_, _, _, _, _, _) => CompareOperators::None,
-        Fields::Format1u(_, _, _, _, _, _) => CompareOperators::None,
-        Fields::Format1c(_, _, _, _, _, cmpy, cmpx) => CompareOperators::Compares(cmpx, cmpy),
-        Fields::Format2(_, _, _, _, _, _, _) => CompareOperators::None,
-        Fields::Format3(_, _, _, _, _) => CompareOperators::None,
-        Fields::Format4(_, _, _, _, _) => CompareOperators::None,
-        Fields::Format5(_, _, _, _, _, _, _) => CompareOperators::None,
-        Fields::Format5i(_, _, _, _, _, _, _) => CompareOperators::None,
-    }
-}
-
+// Goes by the format: only CMP has operators.
 pub fn compare_operators_of(word: u32) -> CompareOperators
     ensures { λ r. ⌜ r ≡ operatorsOf word ⌝ }
 {
-    match decode(word) {
-        Decoded::Known(fields) => operators_in(fields),
-        Decoded::Unknown => CompareOperators::None,
+    match format_of(field(word, 26, 6)) {
+        Format::Unlisted => CompareOperators::None,
+        Format::F0 => CompareOperators::None,
+        Format::F1 => CompareOperators::None,
+        Format::F1i => CompareOperators::None,
+        Format::F1u => CompareOperators::None,
+        Format::F1c => CompareOperators::Compares(field(word, 24, 3), field(word, 21, 3)),
+        Format::F2 => CompareOperators::None,
+        Format::F3 => CompareOperators::None,
+        Format::F4 => CompareOperators::None,
+        Format::F5 => CompareOperators::None,
+        Format::F5i => CompareOperators::None,
     }
 }
 
