@@ -1,5 +1,6 @@
 // Byte offsets and word addresses, little-endian numbers in a file, ranges of bytes. Every function is total: a byte past the end reads as 0, and no sum wraps.
 ghost use mathlib.Core.Path.{_≡_};
+ghost use Prim.Native.Nat.{_+_, _*_};
 ghost use lib.ListN.{length, take, drop};
 ghost use Rattle.binary.specs.Addresses.{offsetOfWord};
 ghost use Rattle.binary.specs.Bytes.{u8At, u16At, u32At};
@@ -33,28 +34,45 @@ pub fn u8_at(s: &[u8], at: ByteOffset) -> u8
     if i < s.len() { s[i] } else { 0 }
 }
 
+fn u16_of(low: u8, high: u8) -> u16
+    ensures { λ r. ⌜ r ≡ low + high * 256 ⌝ }
+{
+    low as u16 + high as u16 * 256
+}
+
+fn u32_of(low: u16, high: u16) -> u32
+    ensures { λ r. ⌜ r ≡ low + high * 65536 ⌝ }
+{
+    low as u32 + high as u32 * 65536
+}
+
+// Where all bytes of a number are there they are taken by index, which compiles to one load.
 pub fn u16_at(s: &[u8], at: ByteOffset) -> u16
     ensures { λ r. ⌜ r ≡ u16At (now (s .entry)) (at .0) ⌝ }
 {
-    let i = at.0;
-    if s.len() as u64 <= i {
+    let i = at.0 as usize;
+    if s.len() <= i {
         return 0;
     }
-    let low = u8_at(s, at) as u16;
-    let high = u8_at(s, ByteOffset(i + 1)) as u16;
-    low + high * 256
+    if 2 <= s.len() - i {
+        u16_of(s[i], s[i + 1])
+    } else {
+        u16_of(s[i], 0)
+    }
 }
 
 pub fn u32_at(s: &[u8], at: ByteOffset) -> u32
     ensures { λ r. ⌜ r ≡ u32At (now (s .entry)) (at .0) ⌝ }
 {
-    let i = at.0;
-    if s.len() as u64 <= i {
+    let i = at.0 as usize;
+    if s.len() <= i {
         return 0;
     }
-    let low = u16_at(s, at) as u32;
-    let high = u16_at(s, ByteOffset(i + 2)) as u32;
-    low + high * 65536
+    if 4 <= s.len() - i {
+        u32_of(u16_of(s[i], s[i + 1]), u16_of(s[i + 2], s[i + 3]))
+    } else {
+        u32_of(u16_at(s, at), u16_at(s, ByteOffset(at.0 + 2)))
+    }
 }
 
 // A run of `size` bytes from `start` on.
