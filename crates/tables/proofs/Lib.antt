@@ -1,3 +1,4 @@
 pub mod Exact
+pub mod Good
 pub mod Laws
 pub mod Trials

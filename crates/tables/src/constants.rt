@@ -1,7 +1,9 @@
 // Constants: reading an entry, and the constant that it holds; refusal 18.
 ghost use mathlib.Core.Path.{_≡_};
+ghost use mathlib.Core.Bool.{not};
 ghost use Rattle.bits.specs.Fields.{field};
-ghost use Rattle.tables.specs.Constants.{entryOf, constantIf, flagOf, bytesOf, vectorOf, convertOf, constantFault};
+ghost use Rattle.tables.specs.Constants.{entryOf, constantIf, flagOf, bytesOf, vectorOf, convertOf, isBad, constantFault};
+use crate::entries::fault_unless;
 use crate::float24::f32_of;
 use crate::float24::is_float24;
 use answer::Fault;
@@ -80,12 +82,31 @@ fn byte_of(word: u32, pos: u32) -> u8
     field(word, pos, 8) as u8
 }
 
+// Whether an entry is a good bool, a good integer, a good vector. Told without a conversion, since the check tests every entry and converts none.
+fn is_flag(e: ConstantEntry) -> bool
+    ensures { λ r. ⌜ r ≡ not (isBad (flagOf e)) ⌝ }
+{
+    (e.id <= 15) & (byte_of(e.x, 0) <= 1)
+}
+
+fn is_bytes(e: ConstantEntry) -> bool
+    ensures { λ r. ⌜ r ≡ not (isBad (bytesOf e)) ⌝ }
+{
+    e.id <= 3
+}
+
+fn is_vector(e: ConstantEntry) -> bool
+    ensures { λ r. ⌜ r ≡ not (isBad (vectorOf e)) ⌝ }
+{
+    let floats = is_float24(e.x) & is_float24(e.y) & is_float24(e.z) & is_float24(e.w);
+    (e.id <= 95) & floats
+}
+
 fn flag_of(e: ConstantEntry) -> Converted
     ensures { λ r. ⌜ r ≡ flagOf e ⌝ }
 {
     let value = byte_of(e.x, 0);
-    let good = (e.id <= 15) & (value <= 1);
-    constant_if(good, Constant::Flag(value == 1))
+    constant_if(is_flag(e), Constant::Flag(value == 1))
 }
 
 fn bytes_of(e: ConstantEntry) -> Converted
@@ -97,21 +118,20 @@ fn bytes_of(e: ConstantEntry) -> Converted
         z: byte_of(e.x, 16),
         w: byte_of(e.x, 24),
     };
-    constant_if(e.id <= 3, Constant::Bytes(bytes))
+    constant_if(is_bytes(e), Constant::Bytes(bytes))
 }
 
 fn vector_of(e: ConstantEntry) -> Converted
     ensures { λ r. ⌜ r ≡ vectorOf e ⌝ }
 {
     // A bad word is converted too, and what it gives is dropped.
-    let floats = is_float24(e.x) & is_float24(e.y) & is_float24(e.z) & is_float24(e.w);
     let vector = FloatVector {
         x: f32_of(e.x),
         y: f32_of(e.y),
         z: f32_of(e.z),
         w: f32_of(e.w),
     };
-    constant_if((e.id <= 95) & floats, Constant::Vector(vector))
+    constant_if(is_vector(e), Constant::Vector(vector))
 }
 
 // The constant that an entry holds.
@@ -127,12 +147,21 @@ pub fn constant_of(e: ConstantEntry) -> Converted
     }
 }
 
+fn is_constant(e: ConstantEntry) -> bool
+    ensures { λ r. ⌜ r ≡ not (isBad (convertOf e)) ⌝ }
+{
+    let kind = e.kind;
+    match kind {
+        0 => is_flag(e),
+        1 => is_bytes(e),
+        2 => is_vector(e),
+        _ => false,
+    }
+}
+
 // The fault of a constant.
 pub fn constant_fault(entry: &[u8], place: u32) -> Fault
     ensures { λ r. ⌜ r ≡ constantFault (now (entry .entry)) place ⌝ }
 {
-    match constant_of(constant_entry(entry)) {
-        Converted::Constant(_) => Fault::Nothing,
-        Converted::Bad => Fault::At { number: 18, place },
-    }
+    fault_unless(is_constant(constant_entry(entry)), 18, place)
 }

@@ -9,7 +9,7 @@ use binary::WordAddress;
 use binary::u16_at;
 use binary::u32_at;
 
-fn fault_unless(good: bool, number: u32, place: u32) -> Fault
+pub(crate) fn fault_unless(good: bool, number: u32, place: u32) -> Fault
     ensures { λ r. ⌜ r ≡ faultIf (not good) number place ⌝ }
 {
     if good {

@@ -1,0 +1,14 @@
+-- Whether an entry is good, read off what it converts to. Assumes nothing.
+use mathlib.Core.Path.{_≡_, refl}
+use mathlib.Core.Bool.{Bool, true, false, not}
+use Rattle.tables.specs.Constants.{constantIf, isBad}
+use Rattle.tables.specs.declared.constants.Constant.{Constant}
+
+pub good-if : (b : Bool) (c : Constant) → not (isBad (constantIf b c)) ≡ b
+unfolding constantIf
+good-if true c = refl
+good-if false c = refl
+
+pub twice-not : (b : Bool) → not (not b) ≡ b
+twice-not true = refl
+twice-not false = refl
