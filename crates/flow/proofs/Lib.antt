@@ -10,6 +10,8 @@ pub mod Region
 pub mod Stops
 pub mod Replay
 pub mod Passing
+pub mod Remembering
+pub mod Standing
 pub mod Tests
 pub mod Trials
 pub mod Weights

@@ -27,6 +27,10 @@ light (suc zero) h = omega arith
 light (suc (suc zero)) h = omega arith
 light (suc (suc (suc l))) h = absurd (omega arith)
 
+pub heavy : (l : ℕ) → 1 ≤ 256 ^ l
+heavy zero = omega arith
+heavy (suc l) = omega (arith, pow-suc 256 l, heavy l)
+
 -- further on in a region there is less
 pub later : (C : Code) (R : Rules) (x : Opens) (p q E : ℕ) → p ≤ q → size C R x q E ≤ size C R x p E
 unfolding size

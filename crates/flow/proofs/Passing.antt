@@ -265,7 +265,7 @@ module _ (C : Code) (a : Allowed) (part : Part) (before : ℕ) where
           over = f .over;
           passes = record {
             again = λ x w u m′ same room fits c.
-                sym (f .again x w u m′ same room fits c) ∙ sym (scan-end C a (partOf x w p Z) p (u + w * f .cost) m′ h l)
+                sym (f .again x w u m′ same room fits c) ∙ sym (scan-end C a (partOf x w p Z) p (u + w * f .cost) m′ h l);
           };
         }
 

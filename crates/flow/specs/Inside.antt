@@ -22,6 +22,7 @@ use Rattle.flow.specs.declared.look.Look.the-variants.{Refuse, Next, One
 use Rattle.flow.specs.declared.look.Opens.{Opens}
 use Rattle.flow.specs.declared.look.Part.{Part}
 use Rattle.flow.specs.declared.scan.Deep.{Deep}
+use Rattle.flow.specs.declared.scan.Outcome.{Outcome}
 use Rattle.flow.specs.declared.scan.Scan.{Scan}
 use Rattle.flow.specs.declared.scan.Scan.the-variants as scan
 use Rattle.flow.specs.declared.own.After.{After}
@@ -154,3 +155,64 @@ deepest d e = record { calls = max (d .calls) (e .calls); ifs = max (d .ifs) (e 
 
 abbrev pub deepOf : Opens → Deep
 deepOf x = record { calls = x .calls; ifs = x .ifs; loops = x .loops }
+
+-- what is open, and so much more
+abbrev pub opened : Opens → Deep → Deep
+opened x d = record { calls = x .calls + d .calls; ifs = x .ifs + d .ifs; loops = x .loops + d .loops }
+
+-- the part that a LOOP or a CALL at p asks for: its region, and whether a LOOP is open in it
+abbrev pub Asks : Control → ℕ → Part → Type 0
+Asks Unknown p r = ⊥
+Asks Plain p r = ⊥
+Asks Emit p r = ⊥
+Asks End p r = ⊥
+Asks (Break c) p r = ⊥
+Asks (If c dst num) p r = ⊥
+Asks (Loop q dst) p r = (r .opens .looped ≡ true) × (r .from .0 ≡ p + 1) × (r .to .0 ≡ dst .0 + 1)
+Asks (Call c dst num) p r = (r .opens .looped ≡ false) × (r .from .0 ≡ dst .0) × (r .to .0 ≡ dst .0 + num)
+Asks (Jump c dst num) p r = ⊥
+
+-- what is remembered of a LOOP or a CALL at p: the cost of its region, and what it opens at most
+abbrev pub Recalled : Code → Allowed → List Bool → Control → ℕ → ℕ → Deep → Type 0
+Recalled C a m Unknown p k d = Unit {0}
+Recalled C a m Plain p k d = Unit {0}
+Recalled C a m Emit p k d = Unit {0}
+Recalled C a m End p k d = Unit {0}
+Recalled C a m (Break c) p k d = Unit {0}
+Recalled C a m (If c dst num) p k d = Unit {0}
+Recalled C a m (Loop q dst) p k d = Passes C a true (p + 1) (dst .0 + 1) k d m
+Recalled C a m (Call c dst num) p k d = Passes C a false (dst .0) (dst .0 + num) k d m
+Recalled C a m (Jump c dst num) p k d = Unit {0}
+
+abbrev pub deepAt : List ℕ → List ℕ → List ℕ → ℕ → Deep
+deepAt calls ifs loops p = record { calls = getD calls p 0; ifs = getD ifs p 0; loops = getD loops p 0 }
+
+-- four arrays: the costs, 0 where nothing is remembered, and what is opened at most
+pub record Memory (C : Code) (a : Allowed) (m : List Bool) (costs calls ifs loops : List ℕ) : Type 0 where
+  pub costs-long : length costs ≡ 512
+  pub calls-long : length calls ≡ 512
+  pub ifs-long : length ifs ≡ 512
+  pub loops-long : length loops ≡ 512
+  pub recalls : (p : ℕ) → 1 ≤ getD costs p 0 → Recalled C a m (C .control p) p (getD costs p 0) (deepAt calls ifs loops p)
+
+-- a remembered region fits
+unfoldable pub fitsAgain : Allowed → Part → ℕ → ℕ → Deep → Bool
+fitsAgain a r t k d =
+    (((ltb 0 k && leb (r .opens .calls + d .calls) (a .calls)) && leb (r .opens .ifs + d .ifs) (a .ifs)) && leb (r .opens .loops + d .loops) (a .loops)) && leb (t + r .weight * k) (a .most)
+
+-- what scanning a part relies on, and what it leaves
+pub record Ready (C : Code) (a : Allowed) (r : Part) (m : List Bool) (seen costs calls ifs loops : List ℕ) : Type 0 where
+  pub within : r .to .0 ≤ C .words
+  pub few : C .words ≤ 512
+  pub weighs : Weighs a r
+  pub long : length m ≡ 512
+  pub known : Seen C a seen
+  pub memory : Memory C a m costs calls ifs loops
+
+pub record Scans (C : Code) (a : Allowed) (r : Part) (before : ℕ) (m₀ : List Bool) (o : Outcome) (m : List Bool) (seen costs calls ifs loops : List ℕ) : Type 0 where
+  pub flow : scanned (o .scan) m ≡ scanOf C a r before m₀
+  pub grown : Covers m₀ m
+  pub long : length m ≡ 512
+  pub known : Seen C a seen
+  pub memory : Memory C a m costs calls ifs loops
+  pub left : (t : ℕ) → o .scan ≡ scan.Go t → Left C a r before t (o .deep) m

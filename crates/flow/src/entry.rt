@@ -82,7 +82,24 @@ fn measure(words: &[u32], emits: bool, main: u32, endmain: u32) -> Flow
     };
     let mut marks = [false; 512];
     let mut seen = [513u32; 512];
-    match scan_part(words, allowed, &mut marks, &mut seen, part, 0) {
+    let mut costs = [0u32; 512];
+    let mut calls = [0u32; 512];
+    let mut ifs = [0u32; 512];
+    let mut loops = [0u32; 512];
+    let outcome = scan_part(
+        words,
+        allowed,
+        &mut marks,
+        &mut seen,
+        &mut costs,
+        &mut calls,
+        &mut ifs,
+        &mut loops,
+        part,
+        0,
+    );
+    let scan = outcome.scan;
+    match scan {
         Scan::Stop(number, word) => Flow::Refused {
             number,
             word: word.0,

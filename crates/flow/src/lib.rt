@@ -12,4 +12,5 @@ pub use look::Opens;
 pub use look::Part;
 pub use own::After;
 pub use scan::Deep;
+pub use scan::Outcome;
 pub use scan::Scan;
