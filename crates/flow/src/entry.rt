@@ -13,7 +13,7 @@ use crate::look::Opens;
 use crate::look::Part;
 use crate::own::is_own;
 use crate::scan::Scan;
-use crate::scan::scan_part;
+use crate::scan::scan_main;
 use binary::WordAddress;
 use instruction::Control;
 use instruction::control_of;
@@ -81,25 +81,7 @@ fn measure(words: &[u32], emits: bool, main: u32, endmain: u32) -> Flow
         to: WordAddress(endmain),
     };
     let mut marks = [false; 512];
-    let mut seen = [513u32; 512];
-    let mut costs = [0u32; 512];
-    let mut calls = [0u32; 512];
-    let mut ifs = [0u32; 512];
-    let mut loops = [0u32; 512];
-    let outcome = scan_part(
-        words,
-        allowed,
-        &mut marks,
-        &mut seen,
-        &mut costs,
-        &mut calls,
-        &mut ifs,
-        &mut loops,
-        part,
-        0,
-    );
-    let scan = outcome.scan;
-    match scan {
+    match scan_main(words, allowed, &mut marks, part) {
         Scan::Stop(number, word) => Flow::Refused {
             number,
             word: word.0,

@@ -1,10 +1,10 @@
 // The visits of a region, those of its parts and called regions among them.
 ghost use mathlib.Core.Path.{_≡_};
 ghost use Prim.Native.Nat.{_≤_, _<_, max};
-ghost use lib.ListN.{set};
+ghost use lib.ListN.{length, set};
 ghost use Rattle.binary.specs.Addresses.{wordAddress};
 ghost use Rattle.flow.specs.Flow.{codeOf};
-ghost use Rattle.flow.specs.Inside.{deepOf, deepest, beyond, Over, opened, Room, Asks, fitsAgain, Ready, Scans};
+ghost use Rattle.flow.specs.Inside.{deepOf, deepest, beyond, Over, opened, Room, Asks, fitsAgain, Weighs, scanned, scanOf, Ready, Scans};
 use crate::look::Allowed;
 use crate::look::Look;
 use crate::look::Opens;
@@ -297,4 +297,34 @@ pub(crate) fn scan_part(
         scan: Scan::Go(t),
         deep,
     }
+}
+
+// The visits of main, with nothing counted and nothing remembered before them.
+pub(crate) fn scan_main(
+    words: &[u32],
+    allowed: Allowed,
+    marks: &mut [bool; 512],
+    part: Part,
+) -> Scan
+    requires { ⌜ (part .to .0 ≤ length (now words)) × (length (now words) ≤ 512) × Weighs allowed part × (length (now marks) ≡ 512) ⌝ }
+    ensures { λ r. ⌜ scanned r (now (marks .exit)) ≡ scanOf (codeOf (now (words .entry)) 0) allowed part 0 (now (marks .entry)) ⌝ }
+{
+    let mut seen = [513u32; 512];
+    let mut costs = [0u32; 512];
+    let mut calls = [0u32; 512];
+    let mut ifs = [0u32; 512];
+    let mut loops = [0u32; 512];
+    let outcome = scan_part(
+        words,
+        allowed,
+        marks,
+        &mut seen,
+        &mut costs,
+        &mut calls,
+        &mut ifs,
+        &mut loops,
+        part,
+        0,
+    );
+    outcome.scan
 }
