@@ -13,12 +13,20 @@ static int refused(uint64_t answer) {
 }
 
 int main(int count, char **arguments) {
-    FILE *input = count == 2 ? fopen(arguments[1], "rb") : NULL;
-    if (!input) {
+    if (count != 2) {
         fprintf(stderr, "usage: report FILE\n");
         return 2;
     }
+    FILE *input = fopen(arguments[1], "rb");
+    if (!input) {
+        perror(arguments[1]);
+        return 2;
+    }
     size_t length = fread(file, 1, sizeof file, input);
+    if (ferror(input)) {
+        perror(arguments[1]);
+        return 2;
+    }
     fclose(input);
 
     uint64_t verdict = pica_check(file, length);

@@ -3,8 +3,8 @@
  *
  * Every call takes every input and returns. It reads and writes nothing but the memory that it is lent, keeps nothing
  * between calls, and may run in several threads at once. A slice goes as a pointer and the number of its elements; of an
- * empty one the pointer is not looked at. Slices that a call writes to overlap no other slice of the same call, and a
- * pointer to larger elements is aligned to them.
+ * empty one the pointer is not looked at. The caller sees to it that a slice that is written overlaps no other slice of
+ * the same call, that a pointer to larger elements is aligned to them, and that nobody else writes to a slice meanwhile.
  *
  * Every call answers one number of 64 bits. Its upper half is the number of a refusal, 0 if there is none. Its lower half
  * is the refusal's place, or without a refusal the call's value. A refused call leaves what it is lent as it was.
@@ -35,7 +35,7 @@ uint64_t pica_check(const uint8_t *file, size_t file_length);
 /*
  * The report of an executable, counted from 0. Value: 8, and out[0] to out[7] are
  *   type (0 vertex, 1 geometry), main, endmain (word indices, endmain the word after main's last),
- *   ones in the input mask, ones in the output mask, constants, distinct words visited,
+ *   ones in the input mask, ones in the output mask, constants, distinct words visited by the check,
  *   total: no run of the executable, whatever its settings, makes more steps.
  * 30 if out_length is under 8.
  */
@@ -56,7 +56,7 @@ uint64_t pica_summarize(const uint8_t *file, size_t file_length, uint8_t *out, s
 /*
  * The control walk of an executable, counted from 0.
  *   bools: 16 bytes, true if not 0, which CALLU, IFU and JMPU read; 30 if there are fewer.
- *   ints: 4 bytes x, a LOOP makes x + 1 turns; 30 if there are fewer.
+ *   ints: 4 bytes x, a LOOP makes x + 1 turns unless a BREAK leaves it; 30 if there are fewer.
  *   truth: the outcomes of CALLC, IFC, JMPC and BREAKC, one byte for each such word executed, true if not 0; false past the end.
  *   fetched: the index of each word fetched is written here in order, as many as fit; the rest stays.
  * Value: the steps made, at most the report's total; it may be more than fetched_length.

@@ -37,16 +37,16 @@ pub fn all() -> Vec<Input> {
         ("IFs in two LOOPs", main_only(in_two_loops(branches()))),
         ("calls over 255 NOPs", calls_over(vec![NOP; 255])),
         ("calls over jumps to the next word", calls_over(jumps_on())),
+        ("calls over jumps to the last word", calls_over(jumps_far())),
+        ("257 calls of nested IFs", nested_in_calls()),
     ];
-    // Alone only: a check that searches for each target at each visit takes seconds for one executable.
-    let far = [("calls over jumps to the last word", calls_over(jumps_far()))];
     let tables = [
         ("3,200 constants", vectors(3_200)),
         ("2,000 labels", labels(2_000)),
     ];
-    let alone = programs.iter().chain(&far);
     let shared = programs.iter().chain(&tables);
-    alone
+    programs
+        .iter()
         .map(|(name, content)| input(name, content, 1))
         .chain(shared.map(|(name, content)| input(&format!("{name}, 16 executables"), content, 16)))
         .collect()
@@ -140,6 +140,19 @@ fn jumps_far() -> Vec<u32> {
     let mut words = vec![aimed(JMPU, INNERMOST + 254, 0); 254];
     words.push(NOP);
     words
+}
+
+/// 257 calls of one region of 28 groups of 8 IFs inside one another: what a check that remembers called regions by the word that calls them takes longest for.
+fn nested_in_calls() -> Content {
+    let mut words = vec![aimed(CALL, 257, 255); 257];
+    for _ in 0..28 {
+        let end = words.len() + 9;
+        words.extend([aimed(IFU, end, 0); 8]);
+        words.push(NOP);
+    }
+    words.extend([NOP; 2]);
+    words.push(END);
+    main_only(words)
 }
 
 /// Vector constants over all registers, with exponents from 1 to 126.
