@@ -1,30 +1,23 @@
--- A word without parts that goes on in one region goes on in every region that ends late enough, whatever is open: what was found at a visit need not be asked again. Assumes nothing.
+-- A jump that goes on in one region goes on in every region that holds its target, whatever is open: the target need not be searched again. Assumes nothing.
 use mathlib.Core.Path.{_≡_, refl, sym, ap, _∙_}
 use mathlib.Core.Bool.{Bool, true, false, not, _&&_, _||_}
 use mathlib.Core.List.{List, [], _∷_}
 use Prim.Native.Nat.{ℕ, zero, suc, _+_, _-_, _≤_, _<_}
 use native.Mathlib.Omega.{arith}
 use lib.Dec.{leb, ltb, eqb}
-use lib.ListN.{length, getD, set, replicate, length-set, length-replicate, getD-replicate}
-use lib.Seq.{getD-set-same, getD-set-other}
-use borrow.Author.Tests.{ltb-true, lt-ltb, le-leb, eqb-true, eqb-false}
-use Rattle.answer.specs.declared.Fault.{Fault}
-use Rattle.answer.specs.declared.Fault.the-variants.{Nothing, At}
+use borrow.Author.Tests.{ltb-true, lt-ltb, le-leb, eqb-true}
 use Rattle.instruction.specs.declared.flow_control.Control.{Control}
 use Rattle.instruction.specs.declared.flow_control.Control.the-variants.{Unknown, Plain, Emit, End, Break, If, Loop, Call, Jump}
-use Rattle.flow.specs.Inside.{rulesOf, unless, partsOf, lookOf, Seen}
+use Rattle.flow.specs.Inside.{rulesOf, unless, partsOf, lookOf, Reaches, Recalled, goesOn}
 use Rattle.flow.specs.Own.{nextOf, spans, ownFrom, ownWords, has}
 use Rattle.flow.specs.Rules.{Code, Rules, pick}
 use Rattle.flow.specs.Visits.{faultAt}
 use Rattle.flow.specs.declared.look.Allowed.{Allowed}
-use Rattle.flow.specs.declared.look.Look.{Look}
-use Rattle.flow.specs.declared.look.Look.the-variants.{Refuse, Next, One, Two}
+use Rattle.flow.specs.declared.look.Look.the-variants.{Next}
 use Rattle.flow.specs.declared.look.Opens.{Opens}
-use Rattle.flow.proofs.Depth.{Passed, fault-none, spans-in}
-use Rattle.flow.proofs.Tests.{true-not-false, false-not-true, not-bad, both, either}
-
-apart : {A : Type 0} → _≡_ {A = ℕ} 0 1 → A
-apart z = absurd (omega arith)
+use Rattle.flow.specs.declared.scan.Deep.{Deep}
+use Rattle.flow.proofs.Depth.{spans-in}
+use Rattle.flow.proofs.Tests.{false-not-true, both, either}
 
 module _ (C : Code) where
   -- an own word is not before the first
@@ -91,53 +84,29 @@ module _ (C : Code) where
   unfolding ownWords
   own-again p E E′ d e h = own-again-to (E - p) (E′ - p) p E E′ d e h (omega arith)
 
-  module _ (a : Allowed) (x x′ : Opens) (w w′ p E E′ v : ℕ) (few : E′ ≤ 512) (late : v ≤ E′) where
-    abbrev R : Rules
-    R = rulesOf a
+  -- a good jump's target is one in every region that holds it
+  pub jump-reaches : (p E dst : ℕ) → ltb p dst && (ltb dst E && has (ownWords C (p + 1) E) dst) ≡ true → Reaches C p dst
+  jump-reaches p E dst e =
+      let (after, rest) = both (ltb p dst) _ e in
+      let (within, own) = both (ltb dst E) _ rest in
+      record { ahead = ltb-true p dst after; own = λ E′ h. own-again (p + 1) E E′ dst own h }
 
-    pub look-again : Next v ≡ lookOf C R x w p E → Next v ≡ lookOf C R x′ w′ p E′
+  -- what is told without the tests is what they tell
+  module _ (a : Allowed) (m : List Bool) (x : Opens) (w p E k : ℕ) (d : Deep) where
+    pub goes-next : goesOn (C .control p) k E ≡ true → (1 ≤ k → Recalled C a m (C .control p) p k d) → Next ≡ lookOf C (rulesOf a) x w p E
     unfolding lookOf faultAt
-    look-again e = by (faultAt C R x p E) refl e
+    goes-next e q = on (C .control p) refl e q
       where
-        on : (i : Control) → C .control p ≡ i → Passed C R i x p E → Next v ≡ partsOf i x w p → Next v ≡ unless (faultAt C R x′ p E′) (partsOf (C .control p) x′ w′ p)
-        on Unknown z o g = rw z g
-        on Plain z o g = rw z g
-        on Emit z o g = rw (z, o .emits) g
-        on End z o g = rw z g
-        on (Break c) z o g = absurd (let q : v ≡ 513 = cc in omega arith)
-        on (If c dst num) z o g = apart (cc)
-        on (Loop r dst) z o g = apart (cc)
-        on (Call c dst num) z o g = apart (cc)
-        on (Jump c dst num) z o g =
-            let q : v ≡ dst .0 + 1 = cc in
-            let (after, rest) = both (ltb p (dst .0)) _ (not-bad _ (o .jumps)) in
-            let (within, own) = both (ltb (dst .0) E) _ rest in
-            rw (z, after, lt-ltb (dst .0) E′ (omega arith), own-again (p + 1) E E′ (dst .0) own (omega arith)) g
-
-        by : (f : Fault) → faultAt C R x p E ≡ f → Next v ≡ unless f (partsOf (C .control p) x w p) → Next v ≡ unless (faultAt C R x′ p E′) (partsOf (C .control p) x′ w′ p)
-        by (At n q) f g = apart (cc)
-        by Nothing f g = on (C .control p) refl (fault-none C R x p E f) g
-
-  -- nothing is known of any word
-  pub none-seen : (a : Allowed) → C .words ≤ 512 → Seen C a (replicate 512 513)
-  none-seen a few = record { long = length-replicate {A = ℕ} 512 513; goes = λ p x w E h k l. absurd (omega (arith, known p (omega arith))) }
-    where
-      known : (q : ℕ) → q < 512 → _≡_ {A = ℕ} (getD (replicate 512 513) q 0) 513
-      known q g = getD-replicate 512 q 513 0 g
-
-  -- one more word is known
-  module _ (a : Allowed) (seen : List ℕ) (x : Opens) (w p E v : ℕ) (few : C .words ≤ 512) (h : p < 512) (s : Seen C a seen) (e : Next v ≡ lookOf C (rulesOf a) x w p E) where
-    goes-on : (q : ℕ) (x′ : Opens) (w′ E′ : ℕ) → getD (set seen p v) q 0 ≤ E′ → E′ ≤ C .words → q < E′ → Next (getD (set seen p v) q 0) ≡ lookOf C (rulesOf a) x′ w′ q E′
-    goes-on q x′ w′ E′ k o l = by (eqb q p) refl
-      where
-        by : (b : Bool) → eqb q p ≡ b → Next (getD (set seen p v) q 0) ≡ lookOf C (rulesOf a) x′ w′ q E′
-        by true z =
-            let y = eqb-true q p z in
-            let same : getD (set seen p v) q 0 ≡ v = rw y (getD-set-same seen p v 0 (omega (arith, s .long))) in
-            rw (same, y) (look-again a x x′ w w′ p E E′ v (omega arith) (omega arith) e)
-        by false z =
-            let same : getD (set seen p v) q 0 ≡ getD seen q 0 = getD-set-other seen p q v 0 (eqb-false q p z) in
-            rw same (s .goes q x′ w′ E′ (omega arith) o l)
-
-    pub more-seen : Seen C a (set seen p v)
-    more-seen = record { long = length-set seen p v ∙ s .long; goes = goes-on }
+        on : (i : Control) → C .control p ≡ i → goesOn i k E ≡ true → (1 ≤ k → Recalled C a m i p k d) → Next ≡ unless (faultAt C (rulesOf a) x p E) (partsOf (C .control p) x w p)
+        on Unknown z g f = rw z
+        on Plain z g f = rw z
+        on End z g f = rw z
+        on Emit z g f = absurd (false-not-true g)
+        on (Break c) z g f = absurd (false-not-true g)
+        on (If c dst num) z g f = absurd (false-not-true g)
+        on (Loop r dst) z g f = absurd (false-not-true g)
+        on (Call c dst num) z g f = absurd (false-not-true g)
+        on (Jump c dst num) z g f =
+            let (known, within) = both (ltb 0 k) _ g in
+            let j = f (ltb-true 0 k known) in
+            rw (z, lt-ltb p (dst .0) (j .ahead), within, j .own E (ltb-true (dst .0) E within))

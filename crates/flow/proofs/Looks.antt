@@ -10,7 +10,7 @@ use Rattle.answer.specs.declared.Fault.{Fault}
 use Rattle.answer.specs.declared.Fault.the-variants.{Nothing, At}
 use Rattle.instruction.specs.declared.flow_control.Control.{Control}
 use Rattle.instruction.specs.declared.flow_control.Control.the-variants.{Unknown, Plain, Emit, End, Break, If, Loop, Call, Jump}
-use Rattle.flow.specs.Inside.{rulesOf, unless, partOf, partsOf, lookOf, Weighs}
+use Rattle.flow.specs.Inside.{rulesOf, unless, partOf, partsOf, lookOf, Weighs, Under, deepOf}
 use Rattle.flow.specs.Rules.{Code, Rules, inIf, inLoop, inCall}
 use Rattle.flow.specs.Visits.{faultAt, size}
 use Rattle.flow.specs.declared.look.Allowed.{Allowed}
@@ -43,6 +43,7 @@ module _ (C : Code) (a : Allowed) (x : Opens) (w p E : ℕ) where
   pub record Fits (r : Part) : Type 0 where
     pub within : r .to .0 ≤ C .words
     pub weighs : Weighs a r
+    pub under : Under a (deepOf (r .opens))
     pub smaller : size C R (r .opens) (r .from .0) (r .to .0) < size C R x p E
 
   abbrev Onward : ℕ → Type 0
@@ -50,11 +51,11 @@ module _ (C : Code) (a : Allowed) (x : Opens) (w p E : ℕ) where
 
   abbrev pub AllFit : Look → Type 0
   AllFit (Refuse n) = Unit {0}
-  AllFit (Next v) = Unit {0}
+  AllFit Next = Unit {0}
   AllFit (One r next) = Fits r × Onward (next .0)
   AllFit (Two r s next) = Fits r × Fits s × Onward (next .0)
 
-  module _ (l : p < E) (h : E ≤ C .words) (g : Weighs a (partOf x w p E)) where
+  module _ (l : p < E) (h : E ≤ C .words) (g : Weighs a (partOf x w p E)) (y : Under a (deepOf x)) where
     parts-fit : (i : Control) → Passed C R i x p E → AllFit (partsOf i x w p)
     parts-fit Unknown o = tt
     parts-fit Plain o = tt
@@ -63,9 +64,10 @@ module _ (C : Code) (a : Allowed) (x : Opens) (w p E : ℕ) where
     parts-fit (Break c) o = tt
     parts-fit (If c dst num) o =
         let b = if-bounds C R c dst num p E (o .bounds) in
-        let s = spare-if C R x (o .room) in (
-          record { within = omega arith; weighs = g; smaller = fewer C R x (inIf x) p E (p + 1) (dst .0) s (omega arith) },
-          record { within = omega arith; weighs = g; smaller = fewer C R x (inIf x) p E (dst .0) (dst .0 + num) s (omega arith) },
+        let s = spare-if C R x (o .room) in
+        let deeper : Under a (deepOf (inIf x)) = (y .0, omega (arith, leb-false (a .ifs) (x .ifs) (o .room)), y .2) in (
+          record { within = omega arith; weighs = g; under = deeper; smaller = fewer C R x (inIf x) p E (p + 1) (dst .0) s (omega arith) },
+          record { within = omega arith; weighs = g; under = deeper; smaller = fewer C R x (inIf x) p E (dst .0) (dst .0 + num) s (omega arith) },
           omega arith,
         )
     parts-fit (Loop r dst) o =
@@ -74,13 +76,15 @@ module _ (C : Code) (a : Allowed) (x : Opens) (w p E : ℕ) where
           record {
             within = omega arith;
             weighs = (heavier, omega (arith, leb-false (a .loops) (x .loops) (o .room)), g .2);
+            under = (y .0, y .1, omega (arith, leb-false (a .loops) (x .loops) (o .room)));
             smaller = fewer C R x (inLoop x) p E (p + 1) (dst .0 + 1) (spare-loop C R x (o .room)) (omega arith);
           },
           omega arith,
         )
     parts-fit (Call c dst num) o =
         let b = call-bounds C R c dst num p E (o .bounds) in
-        (record { within = omega arith; weighs = g; smaller = fewer C R x (inCall x) p E (dst .0) (dst .0 + num) (spare-call C R x (o .room)) (omega arith) }, omega arith)
+        let deeper : Under a (deepOf (inCall x)) = (omega (arith, leb-false (a .calls) (x .calls) (o .room)), y .1, y .2) in
+        (record { within = omega arith; weighs = g; under = deeper; smaller = fewer C R x (inCall x) p E (dst .0) (dst .0 + num) (spare-call C R x (o .room)) (omega arith) }, omega arith)
     parts-fit (Jump c dst num) o = tt
 
     look-fits : AllFit (lookOf C R x w p E)

@@ -4,7 +4,7 @@ use mathlib.Core.Path.{_≡_, refl, sym, ap, _∙_}
 use mathlib.Core.Bool.{Bool, true, false, not, _&&_, _||_}
 use mathlib.Core.List.{List, [], _∷_}
 use Prim.Native.Nat.{ℕ, zero, suc, _+_, _*_, _-_, _≤_, _<_}
-use native.Mathlib.Nat.{le-max-left, le-max-right, mul-assoc}
+use native.Mathlib.Nat.{le-max-left, le-max-right, max-le, mul-assoc}
 use native.Mathlib.Omega.{arith}
 use lib.Dec.{leb, ltb, eqb}
 use lib.ListN.{length, getD, set}
@@ -16,7 +16,7 @@ use Rattle.binary.specs.Addresses.{wordAddress}
 use Rattle.binary.specs.declared.WordAddress.{WordAddress}
 use Rattle.instruction.specs.declared.flow_control.Control.{Control}
 use Rattle.instruction.specs.declared.flow_control.Control.the-variants.{Unknown, Plain, Emit, End, Break, If, Loop, Call, Jump}
-use Rattle.flow.specs.Inside.{rulesOf, unless, partOf, partsOf, lookOf, scanned, scanOf, beyond, Over, Room, Covers, Passes, Left, deepest, deepOf}
+use Rattle.flow.specs.Inside.{rulesOf, unless, partOf, partsOf, lookOf, scanned, scanOf, beyond, Over, Under, Room, Covers, Passes, PassesBoth, Left, LeftBoth, scanBoth, deepest, deepOf}
 use Rattle.flow.specs.Rules.{Code, Rules, inIf, inLoop, inCall, pick}
 use Rattle.flow.specs.Visits.{faultAt}
 use Rattle.flow.specs.declared.look.Allowed.{Allowed}
@@ -29,7 +29,7 @@ use Rattle.flow.specs.declared.scan.Scan.{Scan}
 use Rattle.flow.specs.declared.scan.Scan.the-variants.{Go, Stop}
 use Rattle.flow.proofs.Depth.{Passed, fault-none}
 use Rattle.flow.proofs.Tests.{false-not-true}
-use Rattle.flow.proofs.Replay.{scan-end, scan-next, scan-one, scan-two}
+use Rattle.flow.proofs.Replay.{scan-end, scan-next, scan-one, scan-two, both-go}
 
 apart : {A : Type 0} → _≡_ {A = ℕ} 0 1 → A
 apart z = absurd (omega arith)
@@ -67,11 +67,11 @@ module _ (C : Code) (a : Allowed) (x x′ : Opens) (w w′ p E : ℕ) (same : x�
   abbrev R : Rules
   R = rulesOf a
 
-  pub look-next : {v : ℕ} → Next v ≡ lookOf C R x w p E → Next v ≡ lookOf C R x′ w′ p E
+  pub look-next : Next ≡ lookOf C R x w p E → Next ≡ lookOf C R x′ w′ p E
   unfolding lookOf faultAt
-  look-next {v} e = by (faultAt C R x p E) refl e
+  look-next e = by (faultAt C R x p E) refl e
     where
-      on : (i : Control) → C .control p ≡ i → Passed C R i x p E → Next v ≡ partsOf i x w p → Next v ≡ unless (faultAt C R x′ p E) (partsOf (C .control p) x′ w′ p)
+      on : (i : Control) → C .control p ≡ i → Passed C R i x p E → Next ≡ partsOf i x w p → Next ≡ unless (faultAt C R x′ p E) (partsOf (C .control p) x′ w′ p)
       on Unknown z o g = rw z g
       on Plain z o g = rw z g
       on Emit z o g = rw (z, o .emits) g
@@ -82,7 +82,7 @@ module _ (C : Code) (a : Allowed) (x x′ : Opens) (w w′ p E : ℕ) (same : x�
       on (Call c dst num) z o g = apart (cc)
       on (Jump c dst num) z o g = rw (z, o .jumps) g
 
-      by : (f : Fault) → faultAt C R x p E ≡ f → Next v ≡ unless f (partsOf (C .control p) x w p) → Next v ≡ unless (faultAt C R x′ p E) (partsOf (C .control p) x′ w′ p)
+      by : (f : Fault) → faultAt C R x p E ≡ f → Next ≡ unless f (partsOf (C .control p) x w p) → Next ≡ unless (faultAt C R x′ p E) (partsOf (C .control p) x′ w′ p)
       by (At n q) f g = apart (cc)
       by Nothing f g = on (C .control p) refl (fault-none C R x p E f) g
 
@@ -95,6 +95,10 @@ record Shift (f : ℕ) (x x′ : Opens) (w w′ : ℕ) (r r′ : Part) : Type 0 
   calls : (r′ .opens .calls + x .calls ≡ r .opens .calls + x′ .calls) × (x .calls ≤ r .opens .calls)
   ifs : (r′ .opens .ifs + x .ifs ≡ r .opens .ifs + x′ .ifs) × (x .ifs ≤ r .opens .ifs)
   loops : (r′ .opens .loops + x .loops ≡ r .opens .loops + x′ .loops) × (x .loops ≤ r .opens .loops)
+
+-- the deepest of two that are allowed is allowed
+pub under-both : (a : Allowed) (d e : Deep) → Under a d → Under a e → Under a (deepest d e)
+under-both a d e h g = (max-le (h .0) (g .0), max-le (h .1) (g .1), max-le (h .2) (g .2))
 
 abbrev Below : Deep → Deep → Type 0
 Below d e = (d .calls ≤ e .calls) × (d .ifs ≤ e .ifs) × (d .loops ≤ e .loops)
@@ -112,11 +116,12 @@ record OneAsked (C : Code) (a : Allowed) (x x′ : Opens) (w w′ p E : ℕ) (r 
   shift : Shift (turnsOf r) x x′ w w′ r part
   asks : One part next ≡ lookOf C (rulesOf a) x′ w′ p E
 
+-- an IF's second part follows its first, with the same open
 record TwoAsked (C : Code) (a : Allowed) (x x′ : Opens) (w w′ p E : ℕ) (r s : Part) (next : WordAddress) : Type 0 where
   first : Part
   second : Part
   shift : Shift 1 x x′ w w′ r first
-  shift′ : Shift 1 x x′ w w′ s second
+  follows : second ≡ partOf (first .opens) (first .weight) (r .to .0) (s .to .0)
   asks : Two first second next ≡ lookOf C (rulesOf a) x′ w′ p E
 
 module _ (C : Code) (a : Allowed) (x x′ : Opens) (w w′ p E : ℕ) (same-loop : x′ .looped ≡ x .looped) (d : Deep) (room : Room a x′ (beyond d x)) where
@@ -174,7 +179,7 @@ module _ (C : Code) (a : Allowed) (x x′ : Opens) (w w′ p E : ℕ) (same-loop
             first = partOf (inIf x′) w′ (p + 1) (dst .0);
             second = partOf (inIf x′) w′ (dst .0) (dst .0 + num);
             shift = rw same (record { weight = omega arith; from = refl; to = refl; looped = same-loop; calls = (omega arith, omega arith); ifs = (omega arith, omega arith); loops = (omega arith, omega arith) });
-            shift′ = rw same′ (record { weight = omega arith; from = refl; to = refl; looped = same-loop; calls = (omega arith, omega arith); ifs = (omega arith, omega arith); loops = (omega arith, omega arith) });
+            follows = rw (same, same′);
             asks = rw (z, n, o .bounds, lt-leb (a .ifs) (x′ .ifs) (omega (arith, deep, room)));
           }
       on (Loop q dst) z o g = apart (cc)
@@ -206,25 +211,22 @@ module _ (C : Code) (a : Allowed) (x : Opens) (w p E : ℕ) where
       by (At n q) g = apart (cc)
       by Nothing g = on (C .control p) g
 
-  two-weights : {r s : Part} {next : WordAddress} → Two r s next ≡ lookOf C (rulesOf a) x w p E → (r .weight ≡ w) × (s .weight ≡ w)
+  two-weight : {r s : Part} {next : WordAddress} → Two r s next ≡ lookOf C (rulesOf a) x w p E → r .weight ≡ w
   unfolding lookOf
-  two-weights {r} {s} {next} e = by (faultAt C (rulesOf a) x p E) e
+  two-weight {r} {s} {next} e = by (faultAt C (rulesOf a) x p E) e
     where
-      on : (i : Control) → Two r s next ≡ partsOf i x w p → (r .weight ≡ w) × (s .weight ≡ w)
+      on : (i : Control) → Two r s next ≡ partsOf i x w p → r .weight ≡ w
       on Unknown g = apart (cc)
       on Plain g = apart (cc)
       on Emit g = apart (cc)
       on End g = apart (cc)
       on (Break c) g = apart (cc)
-      on (If c dst num) g =
-          let same : r ≡ partOf (inIf x) w (p + 1) (dst .0) = cc in
-          let same′ : s ≡ partOf (inIf x) w (dst .0) (dst .0 + num) = cc in
-          (rw same, rw same′)
+      on (If c dst num) g = let same : r ≡ partOf (inIf x) w (p + 1) (dst .0) = cc in rw same
       on (Loop q dst) g = apart (cc)
       on (Call c dst num) g = apart (cc)
       on (Jump c dst num) g = apart (cc)
 
-      by : (f : Fault) → Two r s next ≡ unless f (partsOf (C .control p) x w p) → (r .weight ≡ w) × (s .weight ≡ w)
+      by : (f : Fault) → Two r s next ≡ unless f (partsOf (C .control p) x w p) → r .weight ≡ w
       by (At n q) g = apart (cc)
       by Nothing g = on (C .control p) g
 
@@ -243,15 +245,17 @@ module _ (C : Code) (a : Allowed) (part : Part) (before : ℕ) where
     pub cost : ℕ
     pub adds : t ≡ before + W * cost
     pub over : Over d X
+    pub under : Under a d
     pub again : (x : Opens) (w u : ℕ) (m′ : List Bool) → x .looped ≡ X .looped → Room a x (beyond d X) → u + w * cost ≤ a .most → Covers m m′
         → scanOf C a (partOf x w p Z) (u + w * cost) m′ ≡ scanOf C a (partOf x w (part .from .0) Z) u m′
 
-  pub prefix-none : (m : List Bool) → Prefix (part .from .0) before (deepOf X) m
-  prefix-none m =
+  pub prefix-none : (m : List Bool) → Under a (deepOf X) → Prefix (part .from .0) before (deepOf X) m
+  prefix-none m under =
       record {
         cost = 0;
         adds = omega arith;
         over = (omega arith, omega arith, omega arith);
+        under = under;
         again = λ x w u m′ same room fits c. let z : u + w * 0 ≡ u = omega arith in rw z;
       }
 
@@ -263,6 +267,7 @@ module _ (C : Code) (a : Allowed) (part : Part) (before : ℕ) where
           cost = f .cost;
           adds = f .adds;
           over = f .over;
+          under = f .under;
           passes = record {
             again = λ x w u m′ same room fits c.
                 sym (f .again x w u m′ same room fits c) ∙ sym (scan-end C a (partOf x w p Z) p (u + w * f .cost) m′ h l);
@@ -270,12 +275,13 @@ module _ (C : Code) (a : Allowed) (part : Part) (before : ℕ) where
         }
 
     module _ (l : p < Z) (n : p < length m) where
-      pub prefix-next : {v : ℕ} → Next v ≡ lookOf C (rulesOf a) X W p Z → Prefix (p + 1) (t + W) d (set m p true)
+      pub prefix-next : Next ≡ lookOf C (rulesOf a) X W p Z → Prefix (p + 1) (t + W) d (set m p true)
       prefix-next e =
           record {
             cost = f .cost + 1;
             adds = omega (arith, f .adds);
             over = f .over;
+            under = f .under;
             again = λ x w u m′ same room fits c.
                 let sum : u + w * (f .cost + 1) ≡ u + w * f .cost + w = omega arith in
                 let step = scan-next C a (partOf x w p Z) p (u + w * f .cost) m′ h l (omega arith) (look-next C a X x W w p Z same e) in
@@ -283,11 +289,10 @@ module _ (C : Code) (a : Allowed) (part : Part) (before : ℕ) where
                 rw sum (there ∙ step ∙ f .again x w u m′ same room (omega arith) (covers-trans (covers-set m p) c));
           }
 
-      -- a part that was passed, in other surroundings
-      passed-there : (r r′ : Part) {k : ℕ} {x : Opens} {w b t₁ : ℕ} {m₁ : List Bool} (d₁ e : Deep) (u : ℕ) (m′ : List Bool) → Shift k X x W w r r′ → (g : Left C a r b t₁ d₁ m₁) → Below d₁ e → Room a x (beyond e X)
-          → u + r′ .weight * g .cost ≤ a .most → Covers m₁ m′ → scanned (Go (u + r′ .weight * g .cost)) m′ ≡ scanOf C a r′ u m′
-      passed-there r r′ d₁ e u m′ s g below room fits c =
-          sym (rw (s .from, s .to) (g .passes .again (r′ .opens) (r′ .weight) u m′ (s .looped) (part-room a d₁ e s (g .over) below room) fits c))
+      -- a region that was passed, in other surroundings of its part
+      passed-there : {r r′ : Part} {f : ℕ} {x : Opens} {w q e k : ℕ} {m₁ : List Bool} (d₁ d₂ : Deep) (u : ℕ) (m′ : List Bool) → Shift f X x W w r r′ → Over d₁ (r .opens) → Passes C a (r .opens .looped) q e k (beyond d₁ (r .opens)) m₁
+          → Below d₁ d₂ → Room a x (beyond d₂ X) → u + r′ .weight * k ≤ a .most → Covers m₁ m′ → scanned (Go (u + r′ .weight * k)) m′ ≡ scanOf C a (partOf (r′ .opens) (r′ .weight) q e) u m′
+      passed-there {r′ = r′} d₁ d₂ u m′ s over g below room fits c = sym (g .again (r′ .opens) (r′ .weight) u m′ (s .looped) (part-room a d₁ d₂ s over below room) fits c)
 
       deep-left : (d₀ d₁ : Deep) → Below d₀ (deepest d₀ d₁)
       deep-left d₀ d₁ = (le-max-left (d₀ .calls) (d₁ .calls), le-max-left (d₀ .ifs) (d₁ .ifs), le-max-left (d₀ .loops) (d₁ .loops))
@@ -310,42 +315,39 @@ module _ (C : Code) (a : Allowed) (part : Part) (before : ℕ) where
             cost = f .cost + 1 + turnsOf r * g .cost;
             adds = omega (arith, f .adds, g .adds, ap (λ y. y * g .cost) (one-weight C a X W p Z e));
             over = over-more d deep X (f .over) (deep-left d d₁);
+            under = under-both a d d₁ (f .under) (g .under);
             again = λ x w u m′ same room fits c.
                 let o = look-one C a X x W w p Z same deep room (over-more d₁ deep (r .opens) (g .over) (deep-right d d₁)) e in
                 let s = o .shift in
                 let v = u + w * f .cost in
                 let weigh : o .part .weight * g .cost ≡ w * (turnsOf r * g .cost) = ap (λ y. y * g .cost) (s .weight) ∙ mul-assoc w (turnsOf r) (g .cost) in
                 let sum : u + w * (f .cost + 1 + turnsOf r * g .cost) ≡ v + w + o .part .weight * g .cost = omega (arith, weigh) in
-                let there = passed-there r (o .part) d₁ deep (v + w) m′ s g (deep-right d d₁) room (omega (arith, sum)) c in
+                let there : scanned (Go (v + w + o .part .weight * g .cost)) m′ ≡ scanOf C a (o .part) (v + w) m′ = rw (s .from, s .to) (passed-there d₁ deep (v + w) m′ s (g .over) (g .passes) (deep-right d d₁) room (omega (arith, sum)) c) in
                 let marks = ap (λ y. scanOf C a (o .part) (v + w) y) (sym (marked m m′ p n (covers-trans grown c))) in
                 let step = scan-one C a (partOf x w p Z) p v m′ h l (omega (arith, sum)) (o .asks) (there ∙ marks) refl in
                 rw sum (step ∙ f .again x w u m′ same (less-room x d deep (deep-left d d₁) room) (omega (arith, sum)) (covers-trans (covers-set m p) (covers-trans grown c)));
           }
 
-      pub prefix-two : {r s : Part} {next : WordAddress} {t₁ t₂ : ℕ} {d₁ d₂ : Deep} {m₁ m₂ : List Bool} → Two r s next ≡ lookOf C (rulesOf a) X W p Z → Left C a r (t + W) t₁ d₁ m₁ → Left C a s t₁ t₂ d₂ m₂
-          → Covers (set m p true) m₁ → Covers m₁ m₂ → Prefix (next .0) t₂ (deepest (deepest d d₁) d₂) m₂
-      prefix-two {r} {s} {next} {t₁} {t₂} {d₁} {d₂} {m₁} {m₂} e g g′ grown grown′ =
-          let deep₁ = deepest d d₁ in
-          let deep = deepest deep₁ d₂ in
-          let (heavy, heavy′) = two-weights C a X W p Z e in
-          let b : Below d deep = below-trans d deep₁ deep (deep-left d d₁) (deep-left deep₁ d₂) in
-          let b₁ : Below d₁ deep = below-trans d₁ deep₁ deep (deep-right d d₁) (deep-left deep₁ d₂) in
+      pub prefix-two : {r s : Part} {next : WordAddress} {t₁ : ℕ} {d₁ : Deep} {m₁ : List Bool} → Two r s next ≡ lookOf C (rulesOf a) X W p Z → LeftBoth C a r s (t + W) t₁ d₁ m₁ → Covers (set m p true) m₁
+          → Prefix (next .0) t₁ (deepest d d₁) m₁
+      prefix-two {r} {s} {next} {t₁} {d₁} {m₁} e g grown =
+          let deep = deepest d d₁ in
+          let q = g .passes in
           record {
-            cost = f .cost + 1 + g .cost + g′ .cost;
-            adds = omega (arith, f .adds, g .adds, g′ .adds, ap (λ y. y * g .cost) heavy, ap (λ y. y * g′ .cost) heavy′);
-            over = over-more d deep X (f .over) b;
+            cost = f .cost + 1 + g .cost;
+            adds = omega (arith, f .adds, g .adds, ap (λ y. y * g .cost) (two-weight C a X W p Z e));
+            over = over-more d deep X (f .over) (deep-left d d₁);
+            under = under-both a d d₁ (f .under) (g .under);
             again = λ x w u m′ same room fits c.
-                let o = look-two C a X x W w p Z same deep room (over-more d₁ deep (r .opens) (g .over) b₁) e in
+                let o = look-two C a X x W w p Z same deep room (over-more d₁ deep (r .opens) (g .over) (deep-right d d₁)) e in
                 let v = u + w * f .cost in
-                let weigh : o .first .weight * g .cost ≡ w * g .cost = ap (λ y. y * g .cost) (o .shift .weight) ∙ omega arith in
-                let weigh′ : o .second .weight * g′ .cost ≡ w * g′ .cost = ap (λ y. y * g′ .cost) (o .shift′ .weight) ∙ omega arith in
-                let sum : u + w * (f .cost + 1 + g .cost + g′ .cost) ≡ v + w + o .first .weight * g .cost + o .second .weight * g′ .cost = omega (arith, weigh, weigh′) in
-                let there = passed-there r (o .first) d₁ deep (v + w) m′ (o .shift) g b₁ room (omega (arith, sum)) (covers-trans grown′ c) in
-                let there′ = passed-there s (o .second) d₂ deep (v + w + o .first .weight * g .cost) m′ (o .shift′) g′ (deep-right deep₁ d₂) room (omega (arith, sum)) c in
-                let marks = ap (λ y. scanOf C a (o .first) (v + w) y) (sym (marked m m′ p n (covers-trans grown (covers-trans grown′ c)))) in
-                let step = scan-two C a (partOf x w p Z) p v m′ h l (omega (arith, sum)) (o .asks) (there ∙ marks) refl there′ refl in
-                rw sum (step ∙ f .again x w u m′ same (less-room x d deep b room) (omega (arith, sum)) (covers-trans (covers-set m p) (covers-trans grown (covers-trans grown′ c))));
+                let w₁ = o .first .weight in
+                let weigh : w₁ * q .first ≡ w * q .first = ap (λ y. y * q .first) (o .shift .weight) ∙ omega arith in
+                let weigh′ : w₁ * q .second ≡ w * q .second = ap (λ y. y * q .second) (o .shift .weight) ∙ omega arith in
+                let sum : u + w * (f .cost + 1 + g .cost) ≡ v + w + w₁ * q .first + w₁ * q .second = omega (arith, weigh, weigh′, ap (λ y. w * y) (q .sum)) in
+                let there : scanned (Go (v + w + w₁ * q .first)) m′ ≡ scanOf C a (o .first) (v + w) m′ = rw (o .shift .from, o .shift .to) (passed-there d₁ deep (v + w) m′ (o .shift) (g .over) (q .before) (deep-right d d₁) room (omega (arith, sum)) c) in
+                let there′ : scanned (Go (v + w + w₁ * q .first + w₁ * q .second)) m′ ≡ scanOf C a (o .second) (v + w + w₁ * q .first) m′ = rw (o .follows) (passed-there d₁ deep (v + w + w₁ * q .first) m′ (o .shift) (g .over) (q .after) (deep-right d d₁) room (omega (arith, sum)) c) in
+                let marks = ap (λ y. scanBoth C a (o .first) (o .second) (v + w) y) (sym (marked m m′ p n (covers-trans grown c))) in
+                let step = scan-two C a (partOf x w p Z) p v m′ h l (omega (arith, sum)) (o .asks) (both-go C a (o .first) (o .second) (v + w) m′ there refl there′ ∙ marks) refl in
+                rw sum (step ∙ f .again x w u m′ same (less-room x d deep (deep-left d d₁) room) (omega (arith, sum)) (covers-trans (covers-set m p) (covers-trans grown c)));
           }
-        where
-          below-trans : (d₀ d₃ d₄ : Deep) → Below d₀ d₃ → Below d₃ d₄ → Below d₀ d₄
-          below-trans d₀ d₃ d₄ i j = (omega (arith, i, j), omega (arith, i, j), omega (arith, i, j))

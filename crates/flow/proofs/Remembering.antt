@@ -2,8 +2,8 @@
 use mathlib.Core.Path.{_≡_, refl, sym, ap, _∙_}
 use mathlib.Core.Bool.{Bool, true, false, _&&_}
 use mathlib.Core.List.{List}
-use Prim.Native.Nat.{ℕ, zero, suc, _+_, _*_, _-_, _/_, _≤_, _<_}
-use native.Mathlib.Nat.{mul-div-cancel-left}
+use Prim.Native.Nat.{ℕ, zero, suc, _+_, _*_, _-_, _/_, _%_, _≤_, _<_}
+use native.Mathlib.Nat.{mul-div-cancel-left, le-max-left, le-max-right}
 use native.Mathlib.Omega.{arith}
 use lib.Dec.{leb, ltb, eqb}
 use lib.ListN.{length, getD, set, replicate, length-set, length-replicate, getD-replicate}
@@ -14,7 +14,7 @@ use Rattle.answer.specs.declared.Fault.the-variants.{Nothing, At}
 use Rattle.binary.specs.declared.WordAddress.{WordAddress}
 use Rattle.instruction.specs.declared.flow_control.Control.{Control}
 use Rattle.instruction.specs.declared.flow_control.Control.the-variants.{Unknown, Plain, Emit, End, Break, If, Loop, Call, Jump}
-use Rattle.flow.specs.Inside.{rulesOf, unless, partOf, partsOf, lookOf, scanned, scanOf, beyond, Over, Room, Covers, Passes, Left, opened, Asks, Recalled, deepAt, Memory, fitsAgain}
+use Rattle.flow.specs.Inside.{rulesOf, unless, partOf, partsOf, lookOf, scanned, scanOf, beyond, Over, Room, Covers, Passes, PassesBoth, Left, LeftBoth, scanBoth, deepest, opened, Asks, AsksBoth, Recalled, packed, unpacked, deepAt, Memory, fitsAgain}
 use Rattle.flow.specs.Rules.{Code, inIf, inLoop, inCall}
 use Rattle.flow.specs.Visits.{faultAt}
 use Rattle.flow.specs.declared.look.Allowed.{Allowed}
@@ -23,11 +23,22 @@ use Rattle.flow.specs.declared.look.Opens.{Opens}
 use Rattle.flow.specs.declared.look.Part.{Part}
 use Rattle.flow.specs.declared.scan.Deep.{Deep}
 use Rattle.flow.specs.declared.scan.Scan.the-variants.{Go, Stop}
-use Rattle.flow.proofs.Passing.{covers-self, covers-trans}
-use Rattle.flow.proofs.Tests.{both}
+use Rattle.flow.proofs.Again.{jump-reaches}
+use Rattle.flow.proofs.Depth.{Passed, fault-none}
+use Rattle.flow.proofs.Passing.{covers-self, covers-trans, under-both}
+use Rattle.flow.proofs.Replay.{both-go}
+use Rattle.flow.proofs.Tests.{both, not-bad}
 
 apart : {A : Type 0} → _≡_ {A = ℕ} 0 1 → A
 apart z = absurd (omega arith)
+
+-- what is packed is found again
+unpacked-packed : (d : Deep) → d .ifs < 256 → d .loops < 256 → unpacked (packed d) ≡ d
+unpacked-packed d h g =
+    let calls : packed d / 65536 ≡ d .calls = omega arith in
+    let ifs : packed d / 256 % 256 ≡ d .ifs = omega arith in
+    let loops : packed d % 256 ≡ d .loops = omega arith in
+    rw (calls, ifs, loops)
 
 module _ (C : Code) (a : Allowed) where
   -- the part that a word asks for
@@ -49,6 +60,49 @@ module _ (C : Code) (a : Allowed) where
       by : (f : Fault) → One r next ≡ unless f (partsOf (C .control p) x w p) → Asks (C .control p) p r
       by (At n q) g = apart (cc)
       by Nothing g = on (C .control p) g
+
+  -- the parts that an IF asks for
+  pub asks-both : (x : Opens) (w p E : ℕ) {r r′ : Part} {next : WordAddress} → Two r r′ next ≡ lookOf C (rulesOf a) x w p E → AsksBoth (C .control p) p r r′
+  unfolding lookOf
+  asks-both x w p E {r} {r′} {next} e = by (faultAt C (rulesOf a) x p E) e
+    where
+      on : (i : Control) → Two r r′ next ≡ partsOf i x w p → AsksBoth i p r r′
+      on Unknown g = apart (cc)
+      on Plain g = apart (cc)
+      on Emit g = apart (cc)
+      on End g = apart (cc)
+      on (Break c) g = apart (cc)
+      on (If c dst num) g =
+          let same : r ≡ partOf (inIf x) w (p + 1) (dst .0) = cc in
+          let same′ : r′ ≡ partOf (inIf x) w (dst .0) (dst .0 + num) = cc in
+          rw (same, same′) (record { condition = c; dst = dst; num = num; is = refl; from = refl; to = refl; second = refl })
+      on (Loop q dst) g = apart (cc)
+      on (Call c dst num) g = apart (cc)
+      on (Jump c dst num) g = apart (cc)
+
+      by : (f : Fault) → Two r r′ next ≡ unless f (partsOf (C .control p) x w p) → AsksBoth (C .control p) p r r′
+      by (At n q) g = apart (cc)
+      by Nothing g = on (C .control p) g
+
+  -- a word that went on: of a jump, that its target is good
+  next-recalled : (x : Opens) (w p E k : ℕ) (d : Deep) (m : List Bool) → Next ≡ lookOf C (rulesOf a) x w p E → Recalled C a m (C .control p) p k d
+  unfolding lookOf
+  next-recalled x w p E k d m e = by (faultAt C (rulesOf a) x p E) refl e
+    where
+      on : (i : Control) → Passed C (rulesOf a) i x p E → Next ≡ partsOf i x w p → Recalled C a m i p k d
+      on Unknown o g = tt
+      on Plain o g = tt
+      on Emit o g = tt
+      on End o g = tt
+      on (Break c) o g = tt
+      on (If c dst num) o g = apart (cc)
+      on (Loop q dst) o g = apart (cc)
+      on (Call c dst num) o g = apart (cc)
+      on (Jump c dst num) o g = jump-reaches C p E (dst .0) (not-bad _ (o .jumps))
+
+      by : (f : Fault) → faultAt C (rulesOf a) x p E ≡ f → Next ≡ unless f (partsOf (C .control p) x w p) → Recalled C a m (C .control p) p k d
+      by (At n q) f g = apart (cc)
+      by Nothing f g = on (C .control p) (fault-none C (rulesOf a) x p E f) g
 
   -- what is remembered of it is that it is passed
   recalled-passes : (i : Control) (p : ℕ) (r : Part) (k : ℕ) (d : Deep) (m : List Bool) → Asks i p r → Recalled C a m i p k d → Passes C a (r .opens .looped) (r .from .0) (r .to .0) k d m
@@ -73,6 +127,18 @@ module _ (C : Code) (a : Allowed) where
   passes-recalled (Call c dst num) p r k d m h q = rw (h .0, h .1, h .2) at q
   passes-recalled (Jump c dst num) p r k d m h q = absurd h
 
+  -- an IF's second part follows its first
+  module _ {i : Control} {p : ℕ} {r r′ : Part} (h : AsksBoth i p r r′) where
+    follows : r′ ≡ partOf (r .opens) (r .weight) (r .to .0) (r′ .to .0)
+    follows = rw (h .second, h .to)
+
+    -- outside a LOOP, what is remembered of an IF is that both are passed
+    recalled-both : (k : ℕ) (d : Deep) (m : List Bool) → Recalled C a m i p k d → PassesBoth C a false (r .from .0) (r .to .0) (r′ .to .0) k d m
+    recalled-both k d m q = rw (h .second, h .to, h .from) (rw (h .is) at q)
+
+    both-recalled : (k : ℕ) (d : Deep) (m : List Bool) → PassesBoth C a false (r .from .0) (r .to .0) (r′ .to .0) k d m → Recalled C a m i p k d
+    both-recalled k d m q = rw (h .is) (rw (h .second, h .to, h .from) at q)
+
   -- more marks
   passes-grow : {b : Bool} {p E k : ℕ} {d : Deep} {m m′ : List Bool} → Covers m m′ → Passes C a b p E k d m → Passes C a b p E k d m′
   passes-grow g q = record { again = λ x w t m″ same room fits c. q .again x w t m″ same room fits (covers-trans g c) }
@@ -83,28 +149,24 @@ module _ (C : Code) (a : Allowed) where
   recalled-grows Emit p k d g q = tt
   recalled-grows End p k d g q = tt
   recalled-grows (Break c) p k d g q = tt
-  recalled-grows (If c dst num) p k d g q = tt
+  recalled-grows (If c dst num) p k d g q = record { first = q .first; second = q .second; sum = q .sum; before = passes-grow g (q .before); after = passes-grow g (q .after) }
   recalled-grows (Loop z dst) p k d g q = passes-grow g q
   recalled-grows (Call c dst num) p k d g q = passes-grow g q
-  recalled-grows (Jump c dst num) p k d g q = tt
+  recalled-grows (Jump c dst num) p k d g q = q
 
-  pub memory-grows : {m m′ : List Bool} {costs calls ifs loops : List ℕ} → Covers m m′ → Memory C a m costs calls ifs loops → Memory C a m′ costs calls ifs loops
-  memory-grows {costs = costs} {calls = calls} {ifs = ifs} {loops = loops} g y =
+  pub memory-grows : {m m′ : List Bool} {costs depths : List ℕ} → Covers m m′ → Memory C a m costs depths → Memory C a m′ costs depths
+  memory-grows {costs = costs} {depths = depths} g y =
       record {
         costs-long = y .costs-long;
-        calls-long = y .calls-long;
-        ifs-long = y .ifs-long;
-        loops-long = y .loops-long;
-        recalls = λ p h. recalled-grows (C .control p) p (getD costs p 0) (deepAt calls ifs loops p) g (y .recalls p h);
+        depths-long = y .depths-long;
+        recalls = λ p h. recalled-grows (C .control p) p (getD costs p 0) (deepAt depths p) g (y .recalls p h);
       }
 
-  pub memory-none : (m : List Bool) → Memory C a m (replicate 512 0) (replicate 512 0) (replicate 512 0) (replicate 512 0)
+  pub memory-none : (m : List Bool) → Memory C a m (replicate 512 0) (replicate 512 0)
   memory-none m =
       record {
         costs-long = length-replicate {A = ℕ} 512 0;
-        calls-long = length-replicate {A = ℕ} 512 0;
-        ifs-long = length-replicate {A = ℕ} 512 0;
-        loops-long = length-replicate {A = ℕ} 512 0;
+        depths-long = length-replicate {A = ℕ} 512 0;
         recalls = λ p h. absurd (omega (arith, nothing 512 p));
       }
     where
@@ -114,31 +176,40 @@ module _ (C : Code) (a : Allowed) where
       nothing (suc n) (suc p) = nothing n p
 
   -- one region more
-  module _ {m : List Bool} {costs calls ifs loops : List ℕ} (y : Memory C a m costs calls ifs loops) (p k : ℕ) (d : Deep) (h : p < 512) (q : Recalled C a m (C .control p) p k d) where
-    pub memory-more : Memory C a m (set costs p k) (set calls p (d .calls)) (set ifs p (d .ifs)) (set loops p (d .loops))
+  module _ {m : List Bool} {costs depths : List ℕ} (y : Memory C a m costs depths) (p k : ℕ) (d : Deep) (h : p < 512) (small : (d .calls < 256) × (d .ifs < 256) × (d .loops < 256)) (q : Recalled C a m (C .control p) p k d) where
+    pub memory-more : Memory C a m (set costs p k) (set depths p (packed d))
     memory-more =
         record {
           costs-long = length-set costs p k ∙ y .costs-long;
-          calls-long = length-set calls p (d .calls) ∙ y .calls-long;
-          ifs-long = length-set ifs p (d .ifs) ∙ y .ifs-long;
-          loops-long = length-set loops p (d .loops) ∙ y .loops-long;
+          depths-long = length-set depths p (packed d) ∙ y .depths-long;
           recalls = λ z g. by z g (eqb z p) refl;
         }
       where
-        by : (z : ℕ) → 1 ≤ getD (set costs p k) z 0 → (b : Bool) → eqb z p ≡ b
-            → Recalled C a m (C .control z) z (getD (set costs p k) z 0) (deepAt (set calls p (d .calls)) (set ifs p (d .ifs)) (set loops p (d .loops)) z)
+        by : (z : ℕ) → 1 ≤ getD (set costs p k) z 0 → (b : Bool) → eqb z p ≡ b → Recalled C a m (C .control z) z (getD (set costs p k) z 0) (deepAt (set depths p (packed d)) z)
         by z g true e =
-            rw (
-              eqb-true z p e,
-              getD-set-same costs p k 0 (omega (arith, y .costs-long)),
-              getD-set-same calls p (d .calls) 0 (omega (arith, y .calls-long)),
-              getD-set-same ifs p (d .ifs) 0 (omega (arith, y .ifs-long)),
-              getD-set-same loops p (d .loops) 0 (omega (arith, y .loops-long)),
-            ) q
+            rw (eqb-true z p e, getD-set-same costs p k 0 (omega (arith, y .costs-long)), getD-set-same depths p (packed d) 0 (omega (arith, y .depths-long)), unpacked-packed d (small .1) (small .2)) q
         by z g false e =
             let o = eqb-false z p e in
             let c = getD-set-other costs p z k 0 o in
-            rw (c, getD-set-other calls p z (d .calls) 0 o, getD-set-other ifs p z (d .ifs) 0 o, getD-set-other loops p z (d .loops) 0 o) (y .recalls z (rw c at g))
+            rw (c, getD-set-other depths p z (packed d) 0 o) (y .recalls z (rw c at g))
+
+  -- .. of a word without parts
+  pub memory-next : {m : List Bool} {costs depths : List ℕ} → Memory C a m costs depths → (x : Opens) (w p E : ℕ) → p < 512 → Next ≡ lookOf C (rulesOf a) x w p E
+      → Memory C a m (set costs p 1) depths
+  memory-next {m} {costs} {depths} y x w p E l e =
+      record {
+        costs-long = length-set costs p 1 ∙ y .costs-long;
+        depths-long = y .depths-long;
+        recalls = λ z g. by z g (eqb z p) refl;
+      }
+    where
+      by : (z : ℕ) → 1 ≤ getD (set costs p 1) z 0 → (b : Bool) → eqb z p ≡ b → Recalled C a m (C .control z) z (getD (set costs p 1) z 0) (deepAt depths z)
+      by z g true f = let same = eqb-true z p f in rw same (next-recalled x w p E (getD (set costs p 1) p 0) (deepAt depths p) m e)
+      by z g false f = let c = getD-set-other costs p z 1 0 (eqb-false z p f) in rw c (y .recalls z (rw c at g))
+
+  -- what is opened beyond what is open
+  opened-passes : {b : Bool} {p E k : ℕ} (y : Opens) {d : Deep} {m : List Bool} → Passes C a b p E k d m → Passes C a b p E k (beyond (opened y d) y) m
+  opened-passes y q = record { again = λ x w u m′ same room fits c. q .again x w u m′ same (omega (arith, room), omega (arith, room), omega (arith, room)) fits c }
 
   -- a part that fits again
   module _ (r : Part) (t k : ℕ) (d : Deep) (m : List Bool) where
@@ -150,10 +221,10 @@ module _ (C : Code) (a : Allowed) where
     pub fits-known : fitsAgain a r t k d ≡ true → Again
     unfolding fitsAgain
     fits-known e =
-        let (e₁, f) = both _ (leb (t + r .weight * k) (a .most)) e in
-        let (e₂, l) = both _ (leb (r .opens .loops + d .loops) (a .loops)) e₁ in
-        let (e₃, i) = both _ (leb (r .opens .ifs + d .ifs) (a .ifs)) e₂ in
-        let (n, c) = both (ltb 0 k) (leb (r .opens .calls + d .calls) (a .calls)) e₃ in
+        let (e₁, f) = both _ _ e in
+        let (e₂, l) = both _ _ e₁ in
+        let (e₃, i) = both _ _ e₂ in
+        let (n, c) = both _ _ e₃ in
         record {
           known = ltb-true 0 k n;
           room = (leb-true _ _ c, leb-true _ _ i, leb-true _ _ l);
@@ -170,9 +241,37 @@ module _ (C : Code) (a : Allowed) where
             cost = k;
             adds = refl;
             over = (omega arith, omega arith, omega arith);
+            under = g .room;
+            passes = opened-passes (r .opens) (recalled-passes i p r k d m h q);
+          }
+
+    -- .. and two, of an IF
+    module _ (i : Control) (p : ℕ) (r′ : Part) (h : AsksBoth i p r r′) (b : r .opens .looped ≡ false) (q : Recalled C a m i p k d) (g : Again) where
+      passed : PassesBoth C a (r .opens .looped) (r .from .0) (r .to .0) (r′ .to .0) k d m
+      passed = rw b (recalled-both h k d m q)
+
+      sums : t + r .weight * passed .first + r .weight * passed .second ≡ t + r .weight * k
+      sums = omega (arith, ap (λ y. r .weight * y) (passed .sum))
+
+      pub recalled-both-flow : scanned (Go (t + r .weight * k)) m ≡ scanBoth C a r r′ t m
+      recalled-both-flow =
+          let first = passed .before .again (r .opens) (r .weight) t m refl (g .room) (omega (arith, g .fits, sums)) (covers-self m) in
+          let second = passed .after .again (r .opens) (r .weight) (t + r .weight * passed .first) m refl (g .room) (omega (arith, g .fits, sums)) (covers-self m) in
+          rw (← sums) (both-go C a r r′ t m (sym first) refl (sym second ∙ ap (λ y. scanOf C a y (t + r .weight * passed .first) m) (sym (follows h))))
+
+      pub recalled-both-left : LeftBoth C a r r′ t (t + r .weight * k) (opened (r .opens) d) m
+      recalled-both-left =
+          record {
+            cost = k;
+            adds = refl;
+            over = (omega arith, omega arith, omega arith);
+            under = g .room;
             passes = record {
-              again = λ x w u m′ same room fits c.
-                  recalled-passes i p r k d m h q .again x w u m′ same (omega (arith, room), omega (arith, room), omega (arith, room)) fits c;
+              first = passed .first;
+              second = passed .second;
+              sum = passed .sum;
+              before = opened-passes (r .opens) (passed .before);
+              after = opened-passes (r .opens) (passed .after);
             };
           }
 
@@ -180,7 +279,37 @@ module _ (C : Code) (a : Allowed) where
   pub remembered : (i : Control) (p : ℕ) (r : Part) {t t₁ : ℕ} {d : Deep} {m : List Bool} → Asks i p r → (l : Left C a r t t₁ d m) → Recalled C a m i p (l .cost) (beyond d (r .opens))
   remembered i p r {d = d} {m = m} h l = passes-recalled i p r (l .cost) (beyond d (r .opens)) m h (l .passes)
 
-  pub cost-is : (r : Part) {t t₁ : ℕ} {d : Deep} {m : List Bool} → 1 ≤ r .weight → (l : Left C a r t t₁ d m) → (t₁ - t) / r .weight ≡ l .cost
-  cost-is r {t} {t₁} h l =
-      let e : t₁ - t ≡ r .weight * l .cost = omega (arith, l .adds) in
-      rw e (mul-div-cancel-left (l .cost) h)
+  pub cost-is : (w t : ℕ) {t₁ : ℕ} (k : ℕ) → 1 ≤ w → t₁ ≡ t + w * k → (t₁ - t) / w ≡ k
+  cost-is w t {t₁} k h adds =
+      let e : t₁ - t ≡ w * k = omega (arith, adds) in
+      rw e (mul-div-cancel-left k h)
+
+  -- two parts that were passed, one after the other
+  deeper-passes : {b : Bool} {p E k : ℕ} {m : List Bool} (y : Opens) (d e : Deep) → (d .calls ≤ e .calls) × (d .ifs ≤ e .ifs) × (d .loops ≤ e .loops) → Passes C a b p E k (beyond d y) m → Passes C a b p E k (beyond e y) m
+  deeper-passes y d e l q = record { again = λ x w u m′ same room fits c. q .again x w u m′ same (omega (arith, l, room), omega (arith, l, room), omega (arith, l, room)) fits c }
+
+  module _ (i : Control) (p : ℕ) (r r′ : Part) (h : AsksBoth i p r r′) {t t₁ t₂ : ℕ} {d₁ d₂ : Deep} {m₁ m₂ : List Bool} (f : Left C a r t t₁ d₁ m₁) (f′ : Left C a r′ t₁ t₂ d₂ m₂) (g : Covers m₁ m₂) where
+    abbrev e : Deep
+    e = deepest d₁ d₂
+
+    pub both-left : LeftBoth C a r r′ t t₂ e m₂
+    both-left =
+        let same = follows h in
+        let heavy : r′ .weight ≡ r .weight = ap (λ y. y .weight) same in
+        record {
+          cost = f .cost + f′ .cost;
+          adds = omega (arith, f .adds, f′ .adds, ap (λ y. y * f′ .cost) heavy);
+          over = (omega (arith, f .over, le-max-left (d₁ .calls) (d₂ .calls)), omega (arith, f .over, le-max-left (d₁ .ifs) (d₂ .ifs)), omega (arith, f .over, le-max-left (d₁ .loops) (d₂ .loops)));
+          under = under-both a d₁ d₂ (f .under) (f′ .under);
+          passes = record {
+            first = f .cost;
+            second = f′ .cost;
+            sum = refl;
+            before = passes-grow g (deeper-passes (r .opens) d₁ e (le-max-left (d₁ .calls) (d₂ .calls), le-max-left (d₁ .ifs) (d₂ .ifs), le-max-left (d₁ .loops) (d₂ .loops)) (f .passes));
+            after = deeper-passes (r .opens) d₂ e (le-max-right (d₁ .calls) (d₂ .calls), le-max-right (d₁ .ifs) (d₂ .ifs), le-max-right (d₁ .loops) (d₂ .loops)) (rw same at (f′ .passes));
+          };
+        }
+
+  pub remembered-both : (i : Control) (p : ℕ) (r r′ : Part) {t t₁ : ℕ} {d : Deep} {m : List Bool} → AsksBoth i p r r′ → r .opens .looped ≡ false → (l : LeftBoth C a r r′ t t₁ d m)
+      → Recalled C a m i p (l .cost) (beyond d (r .opens))
+  remembered-both i p r r′ {d = d} {m = m} h b l = both-recalled h (l .cost) (beyond d (r .opens)) m (rw b at (l .passes))

@@ -13,7 +13,7 @@ use Rattle.binary.specs.Addresses.{wordAddress}
 use Rattle.binary.specs.declared.WordAddress.{WordAddress}
 use Rattle.instruction.specs.declared.flow_control.Control.{Control}
 use Rattle.instruction.specs.declared.flow_control.Control.the-variants.{Unknown, Plain, Emit, End, Break, If, Loop, Call, Jump}
-use Rattle.flow.specs.Inside.{rulesOf, unless, partOf, partsOf, lookOf, Scanned, scanned, stopOr, replay, scanOf}
+use Rattle.flow.specs.Inside.{rulesOf, unless, partOf, partsOf, lookOf, Scanned, scanned, stopOr, replay, scanOf, replayThen, scanBoth}
 use Rattle.flow.specs.Own.{nextOf}
 use Rattle.flow.specs.Rules.{Code, Rules, inIf, inLoop, inCall, pick}
 use Rattle.flow.specs.Visits.{Visit, Trace, nothing, follow, andThen, unlessFault, visiting, parts, faultAt, visit, region, size, trace}
@@ -29,37 +29,29 @@ use Rattle.flow.proofs.Stops.{isFault, faulty, Told, Tells, parts-told,
 use Rattle.flow.proofs.Tests.{true-not-false, false-not-true}
 
 module _ (C : Code) (R : Rules) where
-  -- more visits after some: none after a stop
-  abbrev goOn : Scan → List Bool → List Visit → Scanned
-  goOn (Go t) m us = replay C R us t m
-  goOn (Stop n q) m us = scanned (Stop n q) m
-
-  abbrev pub replayThen : Scanned → List Visit → Scanned
-  replayThen s us = goOn (s .flow) (s .marks) us
-
   append-here : (over : Bool) (a : Fault) (v : Visit) (m m′ : List Bool) (rest : Scanned) (us : List Visit)
-      → replayThen (pick over (scanned (Stop 27 (wordAddress (v .word))) m) (stopOr a (v .word) m′ rest)) us
-      ≡ pick over (scanned (Stop 27 (wordAddress (v .word))) m) (stopOr a (v .word) m′ (replayThen rest us))
+      → replayThen C R (pick over (scanned (Stop 27 (wordAddress (v .word))) m) (stopOr a (v .word) m′ rest)) us
+      ≡ pick over (scanned (Stop 27 (wordAddress (v .word))) m) (stopOr a (v .word) m′ (replayThen C R rest us))
   append-here true a v m m′ rest us = refl
   append-here false (At n q) v m m′ rest us = refl
   append-here false Nothing v m m′ rest us = refl
 
-  replay-append : (vs us : List Visit) (t : ℕ) (m : List Bool) → replay C R (vs ++ us) t m ≡ replayThen (replay C R vs t m) us
+  replay-append : (vs us : List Visit) (t : ℕ) (m : List Bool) → replay C R (vs ++ us) t m ≡ replayThen C R (replay C R vs t m) us
   unfolding replay
   replay-append [] us t m = refl
   replay-append (v ∷ vs) us t m =
       rw (replay-append vs us (t + v .weight) (set m (v .word) true))
       (sym (append-here (ltb (R .most) (t + v .weight)) (faultAt C R (v .opens) (v .word) (v .end)) v m (set m (v .word) true) (replay C R vs (t + v .weight) (set m (v .word) true)) us))
 
-  stopped-here : (over : Bool) (a : Fault) (b : Bool) (v : Visit) (m m′ : List Bool) (rest : Scanned) (us : List Visit) → (isFault a || b) ≡ true → (b ≡ true → replayThen rest us ≡ rest)
-      → pick over (scanned (Stop 27 (wordAddress (v .word))) m) (stopOr a (v .word) m′ (replayThen rest us))
+  stopped-here : (over : Bool) (a : Fault) (b : Bool) (v : Visit) (m m′ : List Bool) (rest : Scanned) (us : List Visit) → (isFault a || b) ≡ true → (b ≡ true → replayThen C R rest us ≡ rest)
+      → pick over (scanned (Stop 27 (wordAddress (v .word))) m) (stopOr a (v .word) m′ (replayThen C R rest us))
       ≡ pick over (scanned (Stop 27 (wordAddress (v .word))) m) (stopOr a (v .word) m′ rest)
   unfolding isFault
   stopped-here true a b v m m′ rest us e f = refl
   stopped-here false (At n q) b v m m′ rest us e f = refl
   stopped-here false Nothing b v m m′ rest us e f = f e
 
-  replay-stopped : (vs us : List Visit) (t : ℕ) (m : List Bool) → faulty C R vs ≡ true → replayThen (replay C R vs t m) us ≡ replay C R vs t m
+  replay-stopped : (vs us : List Visit) (t : ℕ) (m : List Bool) → faulty C R vs ≡ true → replayThen C R (replay C R vs t m) us ≡ replay C R vs t m
   unfolding replay faulty
   replay-stopped [] us t m e = absurd (false-not-true e)
   replay-stopped (v ∷ vs) us t m e =
@@ -70,10 +62,10 @@ module _ (C : Code) (R : Rules) where
       ∙ stopped-here (ltb (R .most) (t + v .weight)) a (faulty C R vs) v m m′ rest us e (replay-stopped vs us (t + v .weight) m′)
 
   -- one trace after another
-  replay-and : (one more : Trace) (t : ℕ) (m : List Bool) → Told C R one → replay C R (andThen one more .visits) t m ≡ replayThen (replay C R (one .visits) t m) (more .visits)
+  replay-and : (one more : Trace) (t : ℕ) (m : List Bool) → Told C R one → replay C R (andThen one more .visits) t m ≡ replayThen C R (replay C R (one .visits) t m) (more .visits)
   replay-and one more t m told = by (one .stopped) refl
     where
-      by : (s : Bool) → one .stopped ≡ s → replay C R (follow s (one .visits) more .visits) t m ≡ replayThen (replay C R (one .visits) t m) (more .visits)
+      by : (s : Bool) → one .stopped ≡ s → replay C R (follow s (one .visits) more .visits) t m ≡ replayThen C R (replay C R (one .visits) t m) (more .visits)
       by true e = sym (replay-stopped (one .visits) (more .visits) t m (sym told ∙ e))
       by false e = replay-append (one .visits) (more .visits) t m
 
@@ -95,9 +87,9 @@ module _ (C : Code) (a : Allowed) (x : Opens) (w p E : ℕ) (t : ℕ) (m : List 
   -- with total t and marks m, the word itself counted and marked
   unfoldable pub asked : Look → Scanned
   asked (Refuse n) = scanned (Stop n (wordAddress p)) m
-  asked (Next v) = replay C R (visits x w (p + 1) E) t m
+  asked Next = replay C R (visits x w (p + 1) E) t m
   asked (One r next) = replayThen C R (replay C R (partVisits r) t m) (visits x w (next .0) E)
-  asked (Two r s next) = replayThen C R (replayThen C R (replay C R (partVisits r) t m) (partVisits s)) (visits x w (next .0) E)
+  asked (Two r s next) = replayThen C R (scanBoth C a r s t m) (visits x w (next .0) E)
 
   parts-asked : (i : Control) (l : p < E) (h : E ≤ C .words) → faultAt C R x p E ≡ Nothing → C .control p ≡ i
       → replayThen C R (replay C R (parts R (trace C R) i x w p .visits) t m) (visits x w (nextOf i p) E) ≡ asked (partsOf i x w p)
@@ -165,7 +157,7 @@ module _ (C : Code) (a : Allowed) (part : Part) (p t : ℕ) (m : List Bool) (h :
       unfolding asked
       scan-refuse e = scan-word e
 
-      pub scan-next : {v : ℕ} → Next v ≡ lookOf C (rulesOf a) x w p E → scanOf C a (partOf x w (p + 1) E) (t + w) m′ ≡ fromHere
+      pub scan-next : Next ≡ lookOf C (rulesOf a) x w p E → scanOf C a (partOf x w (p + 1) E) (t + w) m′ ≡ fromHere
       unfolding asked
       scan-next e = scan-word e
 
@@ -178,16 +170,19 @@ module _ (C : Code) (a : Allowed) (part : Part) (p t : ℕ) (m : List Bool) (h :
         unfolding asked
         scan-one g = rw (← scan-word e, ← d, g)
 
-      module _ {r r′ : Part} {next : WordAddress} (e : Two r r′ next ≡ lookOf C (rulesOf a) x w p E) {s : Scan} {m₁ : List Bool} (d : scanned s m₁ ≡ scanOf C a r (t + w) m′) where
+      module _ {r r′ : Part} {next : WordAddress} (e : Two r r′ next ≡ lookOf C (rulesOf a) x w p E) {s : Scan} {m₁ : List Bool} (d : scanned s m₁ ≡ scanBoth C a r r′ (t + w) m′) where
         pub scan-two-stop : {n : ℕ} {q : WordAddress} → s ≡ Stop n q → scanned s m₁ ≡ fromHere
         unfolding asked
         scan-two-stop g = rw (← scan-word e, ← d, g)
 
-        module _ {t₁ : ℕ} (g : s ≡ Go t₁) {s′ : Scan} {m₂ : List Bool} (d′ : scanned s′ m₂ ≡ scanOf C a r′ t₁ m₁) where
-          pub scan-two-stop-2 : {n : ℕ} {q : WordAddress} → s′ ≡ Stop n q → scanned s′ m₂ ≡ fromHere
-          unfolding asked
-          scan-two-stop-2 g′ = rw (← scan-word e, ← d, g, ← d′, g′)
+        pub scan-two : {t₁ : ℕ} → s ≡ Go t₁ → scanOf C a (partOf x w (next .0) E) t₁ m₁ ≡ fromHere
+        unfolding asked
+        scan-two g = rw (← scan-word e, ← d, g)
 
-          pub scan-two : {t₂ : ℕ} → s′ ≡ Go t₂ → scanOf C a (partOf x w (next .0) E) t₂ m₂ ≡ fromHere
-          unfolding asked
-          scan-two g′ = rw (← scan-word e, ← d, g, ← d′, g′)
+-- a part after another: not visited after a stop, visited where the first was passed
+module _ (C : Code) (a : Allowed) (r r′ : Part) (t : ℕ) (m : List Bool) {s : Scan} {m₁ : List Bool} (d : scanned s m₁ ≡ scanOf C a r t m) where
+  pub both-stop : {n : ℕ} {q : WordAddress} → s ≡ Stop n q → scanned s m₁ ≡ scanBoth C a r r′ t m
+  both-stop g = rw (← d, g)
+
+  pub both-go : {t₁ : ℕ} {s′ : Scan} {m₂ : List Bool} → s ≡ Go t₁ → scanned s′ m₂ ≡ scanOf C a r′ t₁ m₁ → scanned s′ m₂ ≡ scanBoth C a r r′ t m
+  both-go g f = rw (← d, g) f

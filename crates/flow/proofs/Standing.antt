@@ -7,19 +7,21 @@ use native.Mathlib.Omega.{arith}
 use lib.ListN.{length, getD, set, length-set}
 use Rattle.binary.specs.Addresses.{wordAddress}
 use Rattle.binary.specs.declared.WordAddress.{WordAddress}
-use Rattle.flow.specs.Inside.{rulesOf, partOf, lookOf, Seen, Weighs, scanned, scanOf, Covers, Left, beyond, deepest, deepOf, opened, Asks, deepAt, Memory, Ready, Scans}
+use Rattle.instruction.specs.declared.flow_control.Control.{Control}
+use Rattle.flow.specs.Inside.{rulesOf, partOf, lookOf, Weighs, scanned, scanOf, Covers, Left, LeftBoth, beyond, Under, Small, deepest, deepOf, Asks, AsksBoth, packed, deepAt, Memory, goesOn, passedAgain, Ready, Scans, ScansBoth}
 use Rattle.flow.specs.Rules.{Code}
 use Rattle.flow.specs.declared.look.Allowed.{Allowed}
 use Rattle.flow.specs.declared.look.Look.the-variants.{Refuse, Next, One, Two}
+use Rattle.flow.specs.declared.look.Opens.{Opens}
 use Rattle.flow.specs.declared.look.Part.{Part}
 use Rattle.flow.specs.declared.scan.Deep.{Deep}
 use Rattle.flow.specs.declared.scan.Outcome.{Outcome}
 use Rattle.flow.specs.declared.scan.Scan.the-variants.{Go, Stop}
-use Rattle.flow.proofs.Again.{more-seen}
+use Rattle.flow.proofs.Again.{goes-next}
 use Rattle.flow.proofs.Looks.{fits-at}
 use Rattle.flow.proofs.Passing.{covers-self, covers-trans, covers-set, Prefix, prefix-none, prefix-next, prefix-one, prefix-two, prefix-end}
-use Rattle.flow.proofs.Remembering.{memory-grows, memory-more, Again, recalled-flow, recalled-left, remembered, cost-is}
-use Rattle.flow.proofs.Replay.{scan-end, scan-27, scan-refuse, scan-next, scan-one-stop, scan-one, scan-two-stop, scan-two-stop-2, scan-two}
+use Rattle.flow.proofs.Remembering.{memory-grows, memory-more, memory-next, Again, recalled-flow, recalled-left, recalled-both-flow, recalled-both-left, remembered, remembered-both, both-left, cost-is}
+use Rattle.flow.proofs.Replay.{scan-end, scan-27, scan-refuse, scan-next, scan-one-stop, scan-one, scan-two-stop, scan-two, both-stop, both-go}
 
 apart : {A : Type 0} → _≡_ {A = ℕ} 0 1 → A
 apart z = absurd (omega arith)
@@ -32,18 +34,17 @@ module _ (C : Code) (a : Allowed) (part : Part) (total : ℕ) (m₀ : List Bool)
   w = part .weight
 
   -- before the own word p, with total t, the most that was open, and the marks and memories
-  pub record Standing (m : List Bool) (seen costs calls ifs loops : List ℕ) (p t : ℕ) (d : Deep) : Type 0 where
+  pub record Standing (m : List Bool) (costs depths : List ℕ) (p t : ℕ) (d : Deep) : Type 0 where
     pub from : part .from .0 ≤ p
     pub small : t < 2 ^ 32
     pub flow : scanOf C a (partOf (part .opens) w p E) t m ≡ scanOf C a part total m₀
     pub grown : Covers m₀ m
     pub long : length m ≡ 512
-    pub known : Seen C a seen
-    pub memory : Memory C a m costs calls ifs loops
+    pub memory : Memory C a m costs depths
     pub before : Prefix C a part total p t d m
 
-  pub standing-first : {seen costs calls ifs loops : List ℕ} {d : Deep} → Ready C a part m₀ seen costs calls ifs loops → total < 2 ^ 32 → d ≡ deepOf (part .opens)
-      → Standing m₀ seen costs calls ifs loops (part .from .0) total d
+  pub standing-first : {costs depths : List ℕ} {d : Deep} → Ready C a part m₀ costs depths → total < 2 ^ 32 → d ≡ deepOf (part .opens)
+      → Standing m₀ costs depths (part .from .0) total d
   standing-first r small e =
       record {
         from = omega arith;
@@ -51,32 +52,30 @@ module _ (C : Code) (a : Allowed) (part : Part) (total : ℕ) (m₀ : List Bool)
         flow = refl;
         grown = covers-self m₀;
         long = r .long;
-        known = r .known;
         memory = r .memory;
-        before = rw e (prefix-none C a part total m₀);
+        before = rw e (prefix-none C a part total m₀ (r .under));
       }
 
-  module _ {m : List Bool} {seen costs calls ifs loops : List ℕ} {p t : ℕ} {d : Deep} (h : E ≤ C .words) (few : C .words ≤ 512) (s : Standing m seen costs calls ifs loops p t d) where
+  module _ {m : List Bool} {costs depths : List ℕ} {p t : ℕ} {d : Deep} (h : E ≤ C .words) (few : C .words ≤ 512) (s : Standing m costs depths p t d) where
     -- a fault
-    stopped : {o : Outcome} {n : ℕ} {q : WordAddress} {m₁ : List Bool} {seen₁ costs₁ calls₁ ifs₁ loops₁ : List ℕ} → o .scan ≡ Stop n q → scanned (o .scan) m₁ ≡ scanOf C a part total m₀ → Covers m₀ m₁ → length m₁ ≡ 512
-        → Seen C a seen₁ → Memory C a m₁ costs₁ calls₁ ifs₁ loops₁ → Scans C a part total m₀ o m₁ seen₁ costs₁ calls₁ ifs₁ loops₁
-    stopped e f g l k y = record { flow = f; grown = g; long = l; known = k; memory = y; left = λ u z. apart (cc) }
+    stopped : {o : Outcome} {n : ℕ} {q : WordAddress} {m₁ : List Bool} {costs₁ depths₁ : List ℕ} → o .scan ≡ Stop n q → scanned (o .scan) m₁ ≡ scanOf C a part total m₀ → Covers m₀ m₁ → length m₁ ≡ 512
+        → Memory C a m₁ costs₁ depths₁ → Scans C a part total m₀ o m₁ costs₁ depths₁
+    stopped e f g l y = record { flow = f; grown = g; long = l; memory = y; left = λ u z. apart (cc) }
 
     -- the region's end
-    pub standing-end : {o : Outcome} → E ≤ p → o .scan ≡ Go t → o .deep ≡ d → Scans C a part total m₀ o m seen costs calls ifs loops
+    pub standing-end : {o : Outcome} → E ≤ p → o .scan ≡ Go t → o .deep ≡ d → Scans C a part total m₀ o m costs depths
     standing-end {o} l e f =
         record {
           flow = rw e (scan-end C a part p t m h l ∙ s .flow);
           grown = s .grown;
           long = s .long;
-          known = s .known;
           memory = s .memory;
           left = λ u z. let y : t ≡ u = cc in rw (f, ← y) (prefix-end C a part total h (s .before) l);
         }
 
     module _ (l : p < E) where
-      pub standing-27 : {o : Outcome} → a .most < t + w → o .scan ≡ Stop 27 (wordAddress p) → Scans C a part total m₀ o m seen costs calls ifs loops
-      standing-27 u e = stopped e (rw e (scan-27 C a part p t m h l u ∙ s .flow)) (s .grown) (s .long) (s .known) (s .memory)
+      pub standing-27 : {o : Outcome} → a .most < t + w → o .scan ≡ Stop 27 (wordAddress p) → Scans C a part total m₀ o m costs depths
+      standing-27 u e = stopped e (rw e (scan-27 C a part p t m h l u ∙ s .flow)) (s .grown) (s .long) (s .memory)
 
       module _ (u : t + w ≤ a .most) where
         abbrev m′ : List Bool
@@ -91,39 +90,39 @@ module _ (C : Code) (a : Allowed) (part : Part) (total : ℕ) (m₀ : List Bool)
         grown′ : Covers m₀ m′
         grown′ = covers-trans (s .grown) (covers-set m p)
 
-        memory′ : Memory C a m′ costs calls ifs loops
+        memory′ : Memory C a m′ costs depths
         memory′ = memory-grows C a (covers-set m p) (s .memory)
 
         -- a word that goes on
-        goes-on : {v : ℕ} {seen₁ : List ℕ} → a .most < 2 ^ 32 → Next v ≡ lookOf C (rulesOf a) (part .opens) w p E → Seen C a seen₁ → Standing m′ seen₁ costs calls ifs loops (p + 1) (t + w) d
-        goes-on b e k =
-            record {
-              from = omega (arith, s .from);
-              small = omega arith;
-              flow = scan-next C a part p t m h l u e ∙ s .flow;
-              grown = grown′;
-              long = long′;
-              known = k;
-              memory = memory′;
-              before = prefix-next C a part total h (s .before) l here e;
-            }
+        module _ (b : a .most < 2 ^ 32) where
+          goes-on : {costs₁ : List ℕ} → Next ≡ lookOf C (rulesOf a) (part .opens) w p E → Memory C a m′ costs₁ depths → Standing m′ costs₁ depths (p + 1) (t + w) d
+          goes-on e y =
+              record {
+                from = omega (arith, s .from);
+                small = omega arith;
+                flow = scan-next C a part p t m h l u e ∙ s .flow;
+                grown = grown′;
+                long = long′;
+                memory = y;
+                before = prefix-next C a part total h (s .before) l here e;
+              }
 
-        pub standing-known : a .most < 2 ^ 32 → getD seen p 0 ≤ E → Standing m′ seen costs calls ifs loops (p + 1) (t + w) d
-        standing-known b k = goes-on b (s .known .goes p (part .opens) w E k h l) (s .known)
+          pub standing-known : goesOn (C .control p) (getD costs p 0) E ≡ true → Standing m′ costs depths (p + 1) (t + w) d
+          standing-known k = goes-on (goes-next C a m (part .opens) w p E (getD costs p 0) (deepAt depths p) k (s .memory .recalls p)) memory′
 
-        pub standing-next : (v : ℕ) → a .most < 2 ^ 32 → Next v ≡ lookOf C (rulesOf a) (part .opens) w p E → Standing m′ (set seen p v) costs calls ifs loops (p + 1) (t + w) d
-        standing-next v b e = goes-on b e (more-seen C a seen (part .opens) w p E v few (omega arith) (s .known) e)
+          pub standing-next : Next ≡ lookOf C (rulesOf a) (part .opens) w p E → Standing m′ (set costs p 1) depths (p + 1) (t + w) d
+          standing-next e = goes-on e (memory-next C a memory′ (part .opens) w p E (omega arith) e)
 
-        pub standing-refuse : {o : Outcome} {n : ℕ} → Refuse n ≡ lookOf C (rulesOf a) (part .opens) w p E → o .scan ≡ Stop n (wordAddress p) → Scans C a part total m₀ o m′ seen costs calls ifs loops
-        standing-refuse e z = stopped z (rw z (scan-refuse C a part p t m h l u e ∙ s .flow)) grown′ long′ (s .known) memory′
+        pub standing-refuse : {o : Outcome} {n : ℕ} → Refuse n ≡ lookOf C (rulesOf a) (part .opens) w p E → o .scan ≡ Stop n (wordAddress p) → Scans C a part total m₀ o m′ costs depths
+        standing-refuse e z = stopped z (rw z (scan-refuse C a part p t m h l u e ∙ s .flow)) grown′ long′ memory′
 
         -- a LOOP or a CALL, whose part was entered
-        module _ {r : Part} {next : WordAddress} (e : One r next ≡ lookOf C (rulesOf a) (part .opens) w p E) {o : Outcome} {m₁ : List Bool} {seen₁ costs₁ calls₁ ifs₁ loops₁ : List ℕ}
-            (f : Scans C a r (t + w) m′ o m₁ seen₁ costs₁ calls₁ ifs₁ loops₁) where
-          pub one-stopped : {n : ℕ} {q : WordAddress} → o .scan ≡ Stop n q → Scans C a part total m₀ o m₁ seen₁ costs₁ calls₁ ifs₁ loops₁
-          one-stopped z = stopped z (scan-one-stop C a part p t m h l u e (f .flow) z ∙ s .flow) (covers-trans grown′ (f .grown)) (f .long) (f .known) (f .memory)
+        module _ {r : Part} {next : WordAddress} (e : One r next ≡ lookOf C (rulesOf a) (part .opens) w p E) {o : Outcome} {m₁ : List Bool} {costs₁ depths₁ : List ℕ}
+            (f : Scans C a r (t + w) m′ o m₁ costs₁ depths₁) where
+          pub one-stopped : {n : ℕ} {q : WordAddress} → o .scan ≡ Stop n q → Scans C a part total m₀ o m₁ costs₁ depths₁
+          one-stopped z = stopped z (scan-one-stop C a part p t m h l u e (f .flow) z ∙ s .flow) (covers-trans grown′ (f .grown)) (f .long) (f .memory)
 
-          pub one-passed : {t₁ : ℕ} {d₁ : Deep} → p ≤ next .0 → t₁ < 2 ^ 32 → o .scan ≡ Go t₁ → d₁ ≡ deepest d (o .deep) → Standing m₁ seen₁ costs₁ calls₁ ifs₁ loops₁ (next .0) t₁ d₁
+          pub one-passed : {t₁ : ℕ} {d₁ : Deep} → p ≤ next .0 → t₁ < 2 ^ 32 → o .scan ≡ Go t₁ → d₁ ≡ deepest d (o .deep) → Standing m₁ costs₁ depths₁ (next .0) t₁ d₁
           one-passed {t₁} on small z y =
               record {
                 from = omega (arith, s .from);
@@ -131,73 +130,129 @@ module _ (C : Code) (a : Allowed) (part : Part) (total : ℕ) (m₀ : List Bool)
                 flow = scan-one C a part p t m h l u e (f .flow) z ∙ s .flow;
                 grown = covers-trans grown′ (f .grown);
                 long = f .long;
-                known = f .known;
                 memory = f .memory;
                 before = rw y (prefix-one C a part total h (s .before) l here e (f .left t₁ z) (f .grown));
               }
 
-        -- an IF, whose true part was scanned, and then its false one
-        module _ {r r′ : Part} {next : WordAddress} (e : Two r r′ next ≡ lookOf C (rulesOf a) (part .opens) w p E) {o : Outcome} {m₁ : List Bool} {seen₁ costs₁ calls₁ ifs₁ loops₁ : List ℕ}
-            (f : Scans C a r (t + w) m′ o m₁ seen₁ costs₁ calls₁ ifs₁ loops₁) where
-          pub two-stopped : {n : ℕ} {q : WordAddress} → o .scan ≡ Stop n q → Scans C a part total m₀ o m₁ seen₁ costs₁ calls₁ ifs₁ loops₁
-          two-stopped z = stopped z (scan-two-stop C a part p t m h l u e (f .flow) z ∙ s .flow) (covers-trans grown′ (f .grown)) (f .long) (f .known) (f .memory)
+        -- an IF, whose parts were entered
+        module _ {r r′ : Part} {next : WordAddress} (e : Two r r′ next ≡ lookOf C (rulesOf a) (part .opens) w p E) {o : Outcome} {m₁ : List Bool} {costs₁ depths₁ : List ℕ}
+            (f : ScansBoth C a r r′ (t + w) m′ o m₁ costs₁ depths₁) where
+          pub two-stopped : {n : ℕ} {q : WordAddress} → o .scan ≡ Stop n q → Scans C a part total m₀ o m₁ costs₁ depths₁
+          two-stopped z = stopped z (scan-two-stop C a part p t m h l u e (f .flow) z ∙ s .flow) (covers-trans grown′ (f .grown)) (f .long) (f .memory)
 
-          module _ {t₁ : ℕ} (z : o .scan ≡ Go t₁) {o′ : Outcome} {m₂ : List Bool} {seen₂ costs₂ calls₂ ifs₂ loops₂ : List ℕ} (f′ : Scans C a r′ t₁ m₁ o′ m₂ seen₂ costs₂ calls₂ ifs₂ loops₂) where
-            grown₂ : Covers m₀ m₂
-            grown₂ = covers-trans grown′ (covers-trans (f .grown) (f′ .grown))
-
-            pub two-stopped-2 : {n : ℕ} {q : WordAddress} → o′ .scan ≡ Stop n q → Scans C a part total m₀ o′ m₂ seen₂ costs₂ calls₂ ifs₂ loops₂
-            two-stopped-2 z′ = stopped z′ (scan-two-stop-2 C a part p t m h l u e (f .flow) z (f′ .flow) z′ ∙ s .flow) grown₂ (f′ .long) (f′ .known) (f′ .memory)
-
-            pub two-passed : {t₂ : ℕ} {d₂ : Deep} → p ≤ next .0 → t₂ < 2 ^ 32 → o′ .scan ≡ Go t₂ → d₂ ≡ deepest (deepest d (o .deep)) (o′ .deep) → Standing m₂ seen₂ costs₂ calls₂ ifs₂ loops₂ (next .0) t₂ d₂
-            two-passed {t₂} on small z′ y =
-                record {
-                  from = omega (arith, s .from);
-                  small = small;
-                  flow = scan-two C a part p t m h l u e (f .flow) z (f′ .flow) z′ ∙ s .flow;
-                  grown = grown₂;
-                  long = f′ .long;
-                  known = f′ .known;
-                  memory = f′ .memory;
-                  before = rw y (prefix-two C a part total h (s .before) l here e (f .left t₁ z) (f′ .left t₂ z′) (f .grown) (f′ .grown));
-                }
+          pub two-passed : {t₁ : ℕ} {d₁ : Deep} → p ≤ next .0 → t₁ < 2 ^ 32 → o .scan ≡ Go t₁ → d₁ ≡ deepest d (o .deep) → Standing m₁ costs₁ depths₁ (next .0) t₁ d₁
+          two-passed {t₁} on small z y =
+              record {
+                from = omega (arith, s .from);
+                small = small;
+                flow = scan-two C a part p t m h l u e (f .flow) z ∙ s .flow;
+                grown = covers-trans grown′ (f .grown);
+                long = f .long;
+                memory = f .memory;
+                before = rw y (prefix-two C a part total h (s .before) l here e (f .left t₁ z) (f .grown));
+              }
 
         -- what a part relies on: of the word's own, and of one after another
-        pub ready-part : (r : Part) → r .to .0 ≤ C .words → Weighs a r → Ready C a r m′ seen costs calls ifs loops
-        ready-part r within weighs = record { within = within; few = few; weighs = weighs; long = long′; known = s .known; memory = memory′ }
+        pub ready-part : (r : Part) → r .to .0 ≤ C .words → Weighs a r → Under a (deepOf (r .opens)) → Small a → Ready C a r m′ costs depths
+        ready-part r within weighs under small = record { within = within; few = few; weighs = weighs; under = under; small = small; long = long′; memory = memory′ }
 
-pub ready-after : {C : Code} {a : Allowed} {r : Part} {t : ℕ} {m m₁ : List Bool} {o : Outcome} {seen costs calls ifs loops : List ℕ} (r′ : Part) → C .words ≤ 512 → Scans C a r t m o m₁ seen costs calls ifs loops
-    → r′ .to .0 ≤ C .words → Weighs a r′ → Ready C a r′ m₁ seen costs calls ifs loops
-ready-after r′ few f within weighs = record { within = within; few = few; weighs = weighs; long = f .long; known = f .known; memory = f .memory }
+pub ready-after : {C : Code} {a : Allowed} {r : Part} {t : ℕ} {m m₁ : List Bool} {o : Outcome} {costs depths : List ℕ} (r′ : Part) → C .words ≤ 512 → Scans C a r t m o m₁ costs depths
+    → r′ .to .0 ≤ C .words → Weighs a r′ → Under a (deepOf (r′ .opens)) → Small a → Ready C a r′ m₁ costs depths
+ready-after r′ few f within weighs under small = record { within = within; few = few; weighs = weighs; under = under; small = small; long = f .long; memory = f .memory }
+
+-- .. of an IF's second part
+pub ready-second : {C : Code} {a : Allowed} {i : Control} {p : ℕ} {r r′ : Part} {t : ℕ} {m m₁ : List Bool} {o : Outcome} {costs depths costs₁ depths₁ : List ℕ} → Ready C a r m costs depths → AsksBoth i p r r′ → Scans C a r t m o m₁ costs₁ depths₁
+    → r′ .to .0 ≤ C .words → Ready C a r′ m₁ costs₁ depths₁
+ready-second {C} {a} {r = r} {r′ = r′} y h f within = ready-after r′ (y .few) f within weighs under (y .small)
+  where
+    weighs : Weighs a r′
+    weighs = rw (h .second) (y .weighs)
+
+    under : Under a (deepOf (r′ .opens))
+    under = rw (h .second) (y .under)
+
+pub few-beyond : (a : Allowed) (d : Deep) (x : Opens) {e : Deep} → e ≡ beyond d x → Small a → Under a d → (e .calls < 256) × (e .ifs < 256) × (e .loops < 256)
+few-beyond a d x same h g = rw same (omega (arith, h .0, g .0), omega (arith, h .1, g .1), omega (arith, h .2, g .2))
 
 -- entering the part that a LOOP or a CALL at p asks for: it is remembered and fits; or it was scanned, and is remembered then
-module _ (C : Code) (a : Allowed) (r : Part) (t p : ℕ) (m : List Bool) {seen costs calls ifs loops : List ℕ} (y : Ready C a r m seen costs calls ifs loops) (h : Asks (C .control p) p r) where
-  pub recalled-scans : {o : Outcome} → Again C a r t (getD costs p 0) (deepAt calls ifs loops p) m → o .scan ≡ Go (t + r .weight * getD costs p 0) → o .deep ≡ opened (r .opens) (deepAt calls ifs loops p)
-      → Scans C a r t m o m seen costs calls ifs loops
-  recalled-scans g e f =
+module _ (C : Code) (a : Allowed) (r : Part) (t p : ℕ) (m : List Bool) {costs depths : List ℕ} (y : Ready C a r m costs depths) (h : Asks (C .control p) p r) where
+  pub recalled-scans : {o : Outcome} → Again C a r t (getD costs p 0) (deepAt depths p) m → o ≡ passedAgain r t (getD costs p 0) (deepAt depths p)
+      → Scans C a r t m o m costs depths
+  recalled-scans g e =
       let k = getD costs p 0 in
-      let d = deepAt calls ifs loops p in
+      let d = deepAt depths p in
       let q = y .memory .recalls p (g .known) in
-      record {
-        flow = rw e (recalled-flow C a r t k d m (C .control p) p h q g);
+      rw e (record {
+        flow = recalled-flow C a r t k d m (C .control p) p h q g;
         grown = covers-self m;
         long = y .long;
-        known = y .known;
         memory = y .memory;
-        left = λ u z. let same : t + r .weight * k ≡ u = cc in rw (f, ← same) (recalled-left C a r t k d m (C .control p) p h q g);
-      }
+        left = λ u z. let same : t + r .weight * k ≡ u = cc in rw (← same) (recalled-left C a r t k d m (C .control p) p h q g);
+      })
 
-  module _ {o : Outcome} {m₁ : List Bool} {seen₁ costs₁ calls₁ ifs₁ loops₁ costs₂ calls₂ ifs₂ loops₂ : List ℕ} (f : Scans C a r t m o m₁ seen₁ costs₁ calls₁ ifs₁ loops₁) where
+  module _ {o : Outcome} {m₁ : List Bool} {costs₁ depths₁ costs₂ depths₂ : List ℕ} (f : Scans C a r t m o m₁ costs₁ depths₁) where
     pub remembered-scans : {t₁ k : ℕ} {d : Deep} → p < 512 → 1 ≤ r .weight → o .scan ≡ Go t₁ → k ≡ (t₁ - t) / r .weight → d ≡ beyond (o .deep) (r .opens)
-        → costs₂ ≡ set costs₁ p k → calls₂ ≡ set calls₁ p (d .calls) → ifs₂ ≡ set ifs₁ p (d .ifs) → loops₂ ≡ set loops₁ p (d .loops) → Scans C a r t m o m₁ seen₁ costs₂ calls₂ ifs₂ loops₂
-    remembered-scans {t₁} {k} {d} l b z e e′ c₁ c₂ c₃ c₄ =
+        → costs₂ ≡ set costs₁ p k → depths₂ ≡ set depths₁ p (packed d) → Scans C a r t m o m₁ costs₂ depths₂
+    remembered-scans {t₁} {k} {d} l b z e e′ c₁ c₂ =
         let g = f .left t₁ z in
-        let same : k ≡ g .cost = e ∙ cost-is C a r b g in
+        let same : k ≡ g .cost = e ∙ cost-is C a (r .weight) t (g .cost) b (g .adds) in
         record {
           flow = f .flow;
           grown = f .grown;
           long = f .long;
-          known = f .known;
-          memory = rw (c₁, c₂, c₃, c₄, same, e′) (memory-more C a (f .memory) p (g .cost) (beyond (o .deep) (r .opens)) l (remembered C a (C .control p) p r h g));
+          memory = rw (c₁, c₂, same, e′) (memory-more C a (f .memory) p (g .cost) (beyond (o .deep) (r .opens)) l (few-beyond a (o .deep) (r .opens) refl (y .small) (g .under)) (remembered C a (C .control p) p r h g));
           left = f .left;
         }
+
+-- .. the two parts of an IF, outside a LOOP
+module _ (C : Code) (a : Allowed) (r r′ : Part) (t p : ℕ) (m : List Bool) {costs depths : List ℕ} (y : Ready C a r m costs depths) (h : AsksBoth (C .control p) p r r′) where
+  pub recalled-both-scans : {o : Outcome} → r .opens .looped ≡ false → Again C a r t (getD costs p 0) (deepAt depths p) m → o ≡ passedAgain r t (getD costs p 0) (deepAt depths p)
+      → ScansBoth C a r r′ t m o m costs depths
+  recalled-both-scans b g e =
+      let k = getD costs p 0 in
+      let d = deepAt depths p in
+      let q = y .memory .recalls p (g .known) in
+      rw e (record {
+        flow = recalled-both-flow C a r t k d m (C .control p) p r′ h b q g;
+        grown = covers-self m;
+        long = y .long;
+        memory = y .memory;
+        left = λ u z. let same : t + r .weight * k ≡ u = cc in rw (← same) (recalled-both-left C a r t k d m (C .control p) p r′ h b q g);
+      })
+
+  -- a fault in the first, a fault in the second, and none
+  module _ {o : Outcome} {m₁ : List Bool} {costs₁ depths₁ : List ℕ} (f : Scans C a r t m o m₁ costs₁ depths₁) where
+    pub both-stopped : {n : ℕ} {q : WordAddress} → o .scan ≡ Stop n q → ScansBoth C a r r′ t m o m₁ costs₁ depths₁
+    both-stopped z = record { flow = both-stop C a r r′ t m (f .flow) z; grown = f .grown; long = f .long; memory = f .memory; left = λ u e. apart (cc) }
+
+    module _ {t₁ : ℕ} (z : o .scan ≡ Go t₁) {o′ : Outcome} {m₂ : List Bool} {costs₂ depths₂ : List ℕ} (f′ : Scans C a r′ t₁ m₁ o′ m₂ costs₂ depths₂) where
+      pub both-stopped-2 : {n : ℕ} {q : WordAddress} → o′ .scan ≡ Stop n q → ScansBoth C a r r′ t m o′ m₂ costs₂ depths₂
+      both-stopped-2 e =
+          record { flow = both-go C a r r′ t m (f .flow) z (f′ .flow); grown = covers-trans (f .grown) (f′ .grown); long = f′ .long; memory = f′ .memory; left = λ u g. apart (cc) }
+
+      module _ {t₂ : ℕ} {d : Deep} (z′ : o′ .scan ≡ Go t₂) (e : d ≡ deepest (o .deep) (o′ .deep)) where
+        pub left-both : LeftBoth C a r r′ t t₂ d m₂
+        left-both = rw e (both-left C a (C .control p) p r r′ h (f .left t₁ z) (f′ .left t₂ z′) (f′ .grown))
+
+        pub both-passed : {o″ : Outcome} → o″ .scan ≡ Go t₂ → o″ .deep ≡ d → ScansBoth C a r r′ t m o″ m₂ costs₂ depths₂
+        both-passed e₁ e₂ =
+            record {
+              flow = rw (e₁, ← z′) (both-go C a r r′ t m (f .flow) z (f′ .flow));
+              grown = covers-trans (f .grown) (f′ .grown);
+              long = f′ .long;
+              memory = f′ .memory;
+              left = λ u g. let same : t₂ ≡ u = cc in rw (e₂, ← same) left-both;
+            }
+
+        pub both-remembered : {o″ : Outcome} {k : ℕ} {d′ : Deep} {costs₃ depths₃ : List ℕ} → o″ .scan ≡ Go t₂ → o″ .deep ≡ d → r .opens .looped ≡ false → p < 512 → 1 ≤ r .weight → k ≡ (t₂ - t) / r .weight
+            → d′ ≡ beyond d (r .opens) → costs₃ ≡ set costs₂ p k → depths₃ ≡ set depths₂ p (packed d′) → ScansBoth C a r r′ t m o″ m₂ costs₃ depths₃
+        both-remembered e₁ e₂ b l heavy k-is d-is c₁ c₂ =
+            let g = both-passed e₁ e₂ in
+            let same = k-is ∙ cost-is C a (r .weight) t (left-both .cost) heavy (left-both .adds) in
+            record {
+              flow = g .flow;
+              grown = g .grown;
+              long = g .long;
+              memory = rw (c₁, c₂, same, d-is) (memory-more C a (f′ .memory) p (left-both .cost) (beyond d (r .opens)) l (few-beyond a d (r .opens) refl (y .small) (left-both .under)) (remembered-both C a (C .control p) p r r′ h b left-both));
+              left = g .left;
+            }

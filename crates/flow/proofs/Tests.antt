@@ -18,6 +18,10 @@ pub not-bad : (b : Bool) → not b ≡ false → b ≡ true
 not-bad true e = refl
 not-bad false e = absurd (true-not-false e)
 
+pub not-true : (b : Bool) → not b ≡ true → b ≡ false
+not-true true e = absurd (false-not-true e)
+not-true false e = refl
+
 pub both : (a b : Bool) → (a && b) ≡ true → (a ≡ true) × (b ≡ true)
 both true b e = (refl, e)
 both false b e = absurd (false-not-true e)

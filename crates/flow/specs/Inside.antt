@@ -1,7 +1,7 @@
 -- What the functions inside this crate compute, for their contracts: the steps of the check, one word at a time. The rules are in Own and Visits.
 -- Assumes nothing.
 use mathlib.Core.Path.{_≡_}
-use Prim.Native.Nat.{ℕ, zero, suc, _+_, _*_, _-_, _^_, _≤_, _<_, max}
+use Prim.Native.Nat.{ℕ, zero, suc, _+_, _*_, _-_, _/_, _%_, _^_, _≤_, _<_, max}
 use mathlib.Core.Bool.{Bool, true, false, not, _&&_}
 use mathlib.Core.List.{List, [], _∷_}
 use lib.Dec.{leb, ltb}
@@ -11,6 +11,8 @@ use Rattle.answer.specs.declared.Fault.{Fault}
 use Rattle.answer.specs.declared.Fault.the-variants.{Nothing}
 use Rattle.answer.specs.declared.Fault.the-variants as fault
 use Rattle.binary.specs.Addresses.{wordAddress}
+use Rattle.binary.specs.declared.WordAddress.{WordAddress}
+use Rattle.instruction.specs.declared.flow_control.Condition.{Condition}
 use Rattle.instruction.specs.declared.flow_control.Control.{Control}
 use Rattle.instruction.specs.declared.flow_control.Control.the-variants.{Unknown, Plain, Emit, End, Break, If, Loop, Call, Jump}
 use Rattle.flow.specs.Own.{nextOf, spans, ownWords, has}
@@ -67,28 +69,23 @@ lookCall R x w p words dst num =
     (One (partOf (inCall x) w dst (dst + num)) (wordAddress (p + 1)))
 
 unfoldable pub lookJump : Code → ℕ → ℕ → ℕ → Look
-lookJump C p E dst = unless (faultIf (not (ltb p dst && (ltb dst E && has (ownWords C (p + 1) E) dst))) 26 p) (Next (dst + 1))
+lookJump C p E dst = unless (faultIf (not (ltb p dst && (ltb dst E && has (ownWords C (p + 1) E) dst))) 26 p) Next
 
--- the parts of a word without a fault. One without parts goes on in every region that ends at the number or later; a BREAK, which needs a LOOP around it, has 513, past every end
+-- the parts of a word without a fault
 abbrev pub partsOf : Control → Opens → ℕ → ℕ → Look
-partsOf Unknown x w p = Next 0
-partsOf Plain x w p = Next 0
-partsOf Emit x w p = Next 0
-partsOf End x w p = Next 0
-partsOf (Break c) x w p = Next 513
+partsOf Unknown x w p = Next
+partsOf Plain x w p = Next
+partsOf Emit x w p = Next
+partsOf End x w p = Next
+partsOf (Break c) x w p = Next
 partsOf (If c dst num) x w p = Two (partOf (inIf x) w (p + 1) (dst .0)) (partOf (inIf x) w (dst .0) (dst .0 + num)) (wordAddress (dst .0 + num))
 partsOf (Loop r dst) x w p = One (partOf (inLoop x) (w * 256) (p + 1) (dst .0 + 1)) (wordAddress (dst .0 + 1))
 partsOf (Call c dst num) x w p = One (partOf (inCall x) w (dst .0) (dst .0 + num)) (wordAddress (p + 1))
-partsOf (Jump c dst num) x w p = Next (dst .0 + 1)
+partsOf (Jump c dst num) x w p = Next
 
 -- a visited word: its fault, or its parts
 unfoldable pub lookOf : Code → Rules → Opens → ℕ → ℕ → ℕ → Look
 lookOf C R x w p E = unless (faultAt C R x p E) (partsOf (C .control p) x w p)
-
--- what is known of words that were visited: where a word's number is at most the end of a region, it goes on there, whatever is open
-pub record Seen (C : Code) (a : Allowed) (seen : List ℕ) : Type 0 where
-  pub long : length seen ≡ 512
-  pub goes : (p : ℕ) (x : Opens) (w E : ℕ) → getD seen p 0 ≤ E → E ≤ C .words → p < E → Next (getD seen p 0) ≡ lookOf C (rulesOf a) x w p E
 
 -- a region weighs 256 for each LOOP open, multiplied; never more than two are
 abbrev pub Weighs : Allowed → Part → Type 0
@@ -125,12 +122,28 @@ countTo (suc n) f = countTo n f + pick (f n) 1 0
 abbrev pub scanOf : Code → Allowed → Part → ℕ → List Bool → Scanned
 scanOf C a r t m = replay C (rulesOf a) (trace C (rulesOf a) (r .opens) (r .weight) (r .from .0) (r .to .0) .visits) t m
 
+-- more visits after some: none after a stop
+abbrev pub goOn : Code → Rules → Scan → List Bool → List Visit → Scanned
+goOn C R (scan.Go t) m us = replay C R us t m
+goOn C R (scan.Stop n q) m us = scanned (scan.Stop n q) m
+
+abbrev pub replayThen : Code → Rules → Scanned → List Visit → Scanned
+replayThen C R s us = goOn C R (s .flow) (s .marks) us
+
+-- the visits of a part, then those of another
+abbrev pub scanBoth : Code → Allowed → Part → Part → ℕ → List Bool → Scanned
+scanBoth C a r r′ t m = replayThen C (rulesOf a) (scanOf C a r t m) (trace C (rulesOf a) (r′ .opens) (r′ .weight) (r′ .from .0) (r′ .to .0) .visits)
+
 -- a region that was passed once is passed wherever it fits. What it opens at most beyond what is open around it; both are allowed
 abbrev pub beyond : Deep → Opens → Deep
 beyond d x = record { calls = d .calls - x .calls; ifs = d .ifs - x .ifs; loops = d .loops - x .loops }
 
 abbrev pub Over : Deep → Opens → Type 0
 Over d x = (x .calls ≤ d .calls) × (x .ifs ≤ d .ifs) × (x .loops ≤ d .loops)
+
+-- .. and no more than is allowed
+abbrev pub Under : Allowed → Deep → Type 0
+Under a d = (d .calls ≤ a .calls) × (d .ifs ≤ a .ifs) × (d .loops ≤ a .loops)
 
 abbrev pub Room : Allowed → Opens → Deep → Type 0
 Room a x d = (x .calls + d .calls ≤ a .calls) × (x .ifs + d .ifs ≤ a .ifs) × (x .loops + d .loops ≤ a .loops)
@@ -143,12 +156,28 @@ pub record Covers (m m′ : List Bool) : Type 0 where
 pub record Passes (C : Code) (a : Allowed) (looped : Bool) (p E k : ℕ) (d : Deep) (m : List Bool) : Type 0 where
   pub again : (x : Opens) (w t : ℕ) (m′ : List Bool) → x .looped ≡ looped → Room a x d → t + w * k ≤ a .most → Covers m m′ → scanOf C a (partOf x w p E) t m′ ≡ scanned (scan.Go (t + w * k)) m′
 
+-- .. and the regions from p to q and from q to E, which cost k together
+pub record PassesBoth (C : Code) (a : Allowed) (looped : Bool) (p q E k : ℕ) (d : Deep) (m : List Bool) : Type 0 where
+  pub first : ℕ
+  pub second : ℕ
+  pub sum : k ≡ first + second
+  pub before : Passes C a looped p q first d m
+  pub after : Passes C a looped q E second d m
+
 -- what a part that was passed leaves: its cost in the total, the most that was open in it, and that it is passed wherever it fits
 pub record Left (C : Code) (a : Allowed) (r : Part) (before after : ℕ) (d : Deep) (m : List Bool) : Type 0 where
   pub cost : ℕ
   pub adds : after ≡ before + r .weight * cost
   pub over : Over d (r .opens)
+  pub under : Under a d
   pub passes : Passes C a (r .opens .looped) (r .from .0) (r .to .0) cost (beyond d (r .opens)) m
+
+pub record LeftBoth (C : Code) (a : Allowed) (r r′ : Part) (before after : ℕ) (d : Deep) (m : List Bool) : Type 0 where
+  pub cost : ℕ
+  pub adds : after ≡ before + r .weight * cost
+  pub over : Over d (r .opens)
+  pub under : Under a d
+  pub passes : PassesBoth C a (r .opens .looped) (r .from .0) (r .to .0) (r′ .to .0) cost (beyond d (r .opens)) m
 
 abbrev pub deepest : Deep → Deep → Deep
 deepest d e = record { calls = max (d .calls) (e .calls); ifs = max (d .ifs) (e .ifs); loops = max (d .loops) (e .loops) }
@@ -172,47 +201,95 @@ Asks (Loop q dst) p r = (r .opens .looped ≡ true) × (r .from .0 ≡ p + 1) ×
 Asks (Call c dst num) p r = (r .opens .looped ≡ false) × (r .from .0 ≡ dst .0) × (r .to .0 ≡ dst .0 + num)
 Asks (Jump c dst num) p r = ⊥
 
--- what is remembered of a LOOP or a CALL at p: the cost of its region, and what it opens at most
+-- the parts that an IF at p asks for: two regions, one after the other, with the same open
+pub record AsksBoth (i : Control) (p : ℕ) (r r′ : Part) : Type 0 where
+  pub condition : Condition
+  pub dst : WordAddress
+  pub num : ℕ
+  pub is : i ≡ If condition dst num
+  pub from : r .from .0 ≡ p + 1
+  pub to : r .to .0 ≡ dst .0
+  pub second : r′ ≡ partOf (r .opens) (r .weight) (dst .0) (dst .0 + num)
+
+-- a jump at p whose target is ahead, and an own word of every region that holds it
+pub record Reaches (C : Code) (p dst : ℕ) : Type 0 where
+  pub ahead : p < dst
+  pub own : (E : ℕ) → dst < E → has (ownWords C (p + 1) E) dst ≡ true
+
+-- what is remembered of the word at p: of a LOOP, a CALL, and an IF with no LOOP around it, the cost of its regions and what they open at most; of a jump, that its target is good
 abbrev pub Recalled : Code → Allowed → List Bool → Control → ℕ → ℕ → Deep → Type 0
 Recalled C a m Unknown p k d = Unit {0}
 Recalled C a m Plain p k d = Unit {0}
 Recalled C a m Emit p k d = Unit {0}
 Recalled C a m End p k d = Unit {0}
 Recalled C a m (Break c) p k d = Unit {0}
-Recalled C a m (If c dst num) p k d = Unit {0}
+Recalled C a m (If c dst num) p k d = PassesBoth C a false (p + 1) (dst .0) (dst .0 + num) k d m
 Recalled C a m (Loop q dst) p k d = Passes C a true (p + 1) (dst .0 + 1) k d m
 Recalled C a m (Call c dst num) p k d = Passes C a false (dst .0) (dst .0 + num) k d m
-Recalled C a m (Jump c dst num) p k d = Unit {0}
+Recalled C a m (Jump c dst num) p k d = Reaches C p (dst .0)
 
-abbrev pub deepAt : List ℕ → List ℕ → List ℕ → ℕ → Deep
-deepAt calls ifs loops p = record { calls = getD calls p 0; ifs = getD ifs p 0; loops = getD loops p 0 }
+-- three depths in one number, each below 256
+abbrev pub packed : Deep → ℕ
+packed d = d .calls * 65536 + d .ifs * 256 + d .loops
 
--- four arrays: the costs, 0 where nothing is remembered, and what is opened at most
-pub record Memory (C : Code) (a : Allowed) (m : List Bool) (costs calls ifs loops : List ℕ) : Type 0 where
+abbrev pub unpacked : ℕ → Deep
+unpacked n = record { calls = n / 65536; ifs = n / 256 % 256; loops = n % 256 }
+
+abbrev pub deepAt : List ℕ → ℕ → Deep
+deepAt depths p = unpacked (getD depths p 0)
+
+-- two arrays: the costs, 0 where nothing is remembered, and what is opened at most
+pub record Memory (C : Code) (a : Allowed) (m : List Bool) (costs depths : List ℕ) : Type 0 where
   pub costs-long : length costs ≡ 512
-  pub calls-long : length calls ≡ 512
-  pub ifs-long : length ifs ≡ 512
-  pub loops-long : length loops ≡ 512
-  pub recalls : (p : ℕ) → 1 ≤ getD costs p 0 → Recalled C a m (C .control p) p (getD costs p 0) (deepAt calls ifs loops p)
+  pub depths-long : length depths ≡ 512
+  pub recalls : (p : ℕ) → 1 ≤ getD costs p 0 → Recalled C a m (C .control p) p (getD costs p 0) (deepAt depths p)
 
 -- a remembered region fits
 unfoldable pub fitsAgain : Allowed → Part → ℕ → ℕ → Deep → Bool
 fitsAgain a r t k d =
     (((ltb 0 k && leb (r .opens .calls + d .calls) (a .calls)) && leb (r .opens .ifs + d .ifs) (a .ifs)) && leb (r .opens .loops + d .loops) (a .loops)) && leb (t + r .weight * k) (a .most)
 
+-- limits below 256, so that depths can be packed
+abbrev pub Small : Allowed → Type 0
+Small a = (a .calls < 256) × (a .ifs < 256) × (a .loops < 256)
+
+-- what a part that fits leaves
+abbrev pub passedAgain : Part → ℕ → ℕ → Deep → Outcome
+passedAgain r t k d = record { scan = scan.Go (t + r .weight * k); deep = opened (r .opens) d }
+
+-- whether a word without parts goes on, by what it is, what is remembered of it, and the region's end
+abbrev pub goesOn : Control → ℕ → ℕ → Bool
+goesOn Unknown k E = true
+goesOn Plain k E = true
+goesOn End k E = true
+goesOn (Jump c dst num) k E = ltb 0 k && ltb (dst .0) E
+goesOn Emit k E = false
+goesOn (Break c) k E = false
+goesOn (If c dst num) k E = false
+goesOn (Loop q dst) k E = false
+goesOn (Call c dst num) k E = false
+
 -- what scanning a part relies on, and what it leaves
-pub record Ready (C : Code) (a : Allowed) (r : Part) (m : List Bool) (seen costs calls ifs loops : List ℕ) : Type 0 where
+pub record Ready (C : Code) (a : Allowed) (r : Part) (m : List Bool) (costs depths : List ℕ) : Type 0 where
   pub within : r .to .0 ≤ C .words
   pub few : C .words ≤ 512
   pub weighs : Weighs a r
+  pub under : Under a (deepOf (r .opens))
+  pub small : Small a
   pub long : length m ≡ 512
-  pub known : Seen C a seen
-  pub memory : Memory C a m costs calls ifs loops
+  pub memory : Memory C a m costs depths
 
-pub record Scans (C : Code) (a : Allowed) (r : Part) (before : ℕ) (m₀ : List Bool) (o : Outcome) (m : List Bool) (seen costs calls ifs loops : List ℕ) : Type 0 where
+pub record Scans (C : Code) (a : Allowed) (r : Part) (before : ℕ) (m₀ : List Bool) (o : Outcome) (m : List Bool) (costs depths : List ℕ) : Type 0 where
   pub flow : scanned (o .scan) m ≡ scanOf C a r before m₀
   pub grown : Covers m₀ m
   pub long : length m ≡ 512
-  pub known : Seen C a seen
-  pub memory : Memory C a m costs calls ifs loops
+  pub memory : Memory C a m costs depths
   pub left : (t : ℕ) → o .scan ≡ scan.Go t → Left C a r before t (o .deep) m
+
+-- .. and of two, one after the other
+pub record ScansBoth (C : Code) (a : Allowed) (r r′ : Part) (before : ℕ) (m₀ : List Bool) (o : Outcome) (m : List Bool) (costs depths : List ℕ) : Type 0 where
+  pub flow : scanned (o .scan) m ≡ scanBoth C a r r′ before m₀
+  pub grown : Covers m₀ m
+  pub long : length m ≡ 512
+  pub memory : Memory C a m costs depths
+  pub left : (t : ℕ) → o .scan ≡ scan.Go t → LeftBoth C a r r′ before t (o .deep) m

@@ -38,10 +38,9 @@ pub struct Part {
 }
 
 // What a visited word asks for: to be refused, to go on at the next word, or to visit one part or two and go on after them.
-// With the next word comes a number: in every region that ends there or later the word goes on, whatever is open. It is 513 for a word of which that is not said.
 pub enum Look {
     Refuse(u32),
-    Next(u32),
+    Next,
     One(Part, WordAddress),
     Two(Part, Part, WordAddress),
 }
@@ -159,7 +158,7 @@ fn look_jump(words: &[u32], p: u32, end: u32, dst: u32) -> Look
         return Look::Refuse(26);
     }
     if is_own(words, end, p + 1, dst) {
-        Look::Next(dst + 1)
+        Look::Next
     } else {
         Look::Refuse(26)
     }
@@ -180,19 +179,19 @@ pub(crate) fn look_at(
     let count = words.len() as u32;
     let at = p as usize;
     match control_of(words[at]) {
-        Control::Unknown => Look::Next(0),
-        Control::Plain => Look::Next(0),
-        Control::End => Look::Next(0),
+        Control::Unknown => Look::Next,
+        Control::Plain => Look::Next,
+        Control::End => Look::Next,
         Control::Emit => {
             if allowed.emits {
-                Look::Next(0)
+                Look::Next
             } else {
                 Look::Refuse(22)
             }
         }
         Control::Break(_) => {
             if opens.looped {
-                Look::Next(513)
+                Look::Next
             } else {
                 Look::Refuse(23)
             }

@@ -1,16 +1,18 @@
 // The visits of a region, those of its parts and called regions among them.
 ghost use mathlib.Core.Path.{_≡_};
-ghost use Prim.Native.Nat.{_≤_, _<_, max};
+ghost use Prim.Native.Nat.{_+_, _*_, _≤_, _<_, max};
 ghost use lib.ListN.{length, set};
 ghost use Rattle.binary.specs.Addresses.{wordAddress};
 ghost use Rattle.flow.specs.Flow.{codeOf};
-ghost use Rattle.flow.specs.Inside.{deepOf, deepest, beyond, Over, opened, Room, Asks, fitsAgain, Weighs, scanned, scanOf, Ready, Scans};
+ghost use Rattle.flow.specs.Inside.{deepOf, deepest, beyond, Over, opened, Under, Small, Room, Asks, AsksBoth, goesOn, packed, deepAt, fitsAgain, passedAgain, Weighs, scanned, scanOf, Ready, Scans, ScansBoth};
 use crate::look::Allowed;
 use crate::look::Look;
 use crate::look::Opens;
 use crate::look::Part;
 use crate::look::look_at;
 use binary::WordAddress;
+use instruction::Control;
+use instruction::control_of;
 
 // The total so far, or the first fault's number and word.
 pub enum Scan {
@@ -79,24 +81,27 @@ fn beyond_of(deep: Deep, opens: Opens) -> Deep
     }
 }
 
-// Stores what was found of the region that the word at `p` asks for.
-fn remember(
-    costs: &mut [u32; 512],
-    calls: &mut [u32; 512],
-    ifs: &mut [u32; 512],
-    loops: &mut [u32; 512],
-    p: u32,
-    cost: u32,
-    deep: Deep,
-)
+// What is remembered of the depths inside the parts that the word at `p` asks for.
+fn deep_at(depths: &[u32; 512], p: u32) -> Deep
     requires { ⌜ p < 512 ⌝ }
-    ensures { λ _. ⌜ (now (costs .exit) ≡ set (now (costs .entry)) p cost) × (now (calls .exit) ≡ set (now (calls .entry)) p (deep .calls)) × (now (ifs .exit) ≡ set (now (ifs .entry)) p (deep .ifs)) × (now (loops .exit) ≡ set (now (loops .entry)) p (deep .loops)) ⌝ }
+    ensures { λ r. ⌜ r ≡ deepAt (now (depths .entry)) p ⌝ }
+{
+    let packed = depths[p as usize];
+    Deep {
+        calls: packed / 65536,
+        ifs: packed / 256 % 256,
+        loops: packed % 256,
+    }
+}
+
+// Stores what was found of the parts that the word at `p` asks for. The depths are packed: one array is cleared for each main, not three.
+fn remember(costs: &mut [u32; 512], depths: &mut [u32; 512], p: u32, cost: u32, deep: Deep)
+    requires { ⌜ (p < 512) × (deep .calls < 256) × (deep .ifs < 256) × (deep .loops < 256) ⌝ }
+    ensures { λ _. ⌜ (now (costs .exit) ≡ set (now (costs .entry)) p cost) × (now (depths .exit) ≡ set (now (depths .entry)) p (packed deep)) ⌝ }
 {
     let at = p as usize;
     costs[at] = cost;
-    calls[at] = deep.calls;
-    ifs[at] = deep.ifs;
-    loops[at] = deep.loops;
+    depths[at] = deep.calls * 65536 + deep.ifs * 256 + deep.loops;
 }
 
 fn stop(number: u32, p: u32) -> Outcome
@@ -128,82 +133,121 @@ fn fits_again(allowed: Allowed, part: Part, total: u32, cost: u32, deep: Deep) -
         & (sum <= allowed.most as u64)
 }
 
+// What a region that fits again leaves.
+fn passed_again(allowed: Allowed, part: Part, total: u32, cost: u32, deep: Deep) -> Outcome
+    requires { ⌜ Room allowed (part .opens) deep × (total + part .weight * cost ≤ allowed .most) ⌝ }
+    ensures { λ r. ⌜ r ≡ passedAgain part total cost deep ⌝ }
+{
+    Outcome {
+        scan: Scan::Go(total + part.weight * cost),
+        deep: opened_by(allowed, part.opens, deep),
+    }
+}
+
+// Whether a visited word without parts goes on, told without its tests: a word that has none; a jump whose target was found before and lies in the region.
+fn goes_on(control: Control, known: u32, end: u32) -> bool
+    ensures { λ r. ⌜ r ≡ goesOn control known end ⌝ }
+{
+    match control {
+        Control::Unknown => true,
+        Control::Plain => true,
+        Control::End => true,
+        Control::Jump(_, dst, _) => (0 < known) & (dst.0 < end),
+        Control::Emit => false,
+        Control::Break(_) => false,
+        Control::If(_, _, _) => false,
+        Control::Loop(_, _) => false,
+        Control::Call(_, _, _) => false,
+    }
+}
+
 // Visits the part that a LOOP or a CALL at `p` asks for. What its first visit found is remembered: where the same region fits again, its cost is added and it is not
 // visited again. It would meet no fault, and its words are marked.
 fn enter(
     words: &[u32],
     allowed: Allowed,
     marks: &mut [bool; 512],
-    seen: &mut [u32; 512],
     costs: &mut [u32; 512],
-    calls: &mut [u32; 512],
-    ifs: &mut [u32; 512],
-    loops: &mut [u32; 512],
+    depths: &mut [u32; 512],
     p: u32,
     part: Part,
     total: u32,
 ) -> Outcome
-    requires { ⌜ Ready (codeOf (now words) 0) allowed part (now marks) (now seen) (now costs) (now calls) (now ifs) (now loops) × Asks (codeOf (now words) 0 .control p) p part × (p < 512) ⌝ }
-    ensures { λ r. ⌜ Scans (codeOf (now (words .entry)) 0) allowed part total (now (marks .entry)) r (now (marks .exit)) (now (seen .exit)) (now (costs .exit)) (now (calls .exit)) (now (ifs .exit)) (now (loops .exit)) ⌝ }
+    requires { ⌜ Ready (codeOf (now words) 0) allowed part (now marks) (now costs) (now depths) × Asks (codeOf (now words) 0 .control p) p part × (p < 512) ⌝ }
+    ensures { λ r. ⌜ Scans (codeOf (now (words .entry)) 0) allowed part total (now (marks .entry)) r (now (marks .exit)) (now (costs .exit)) (now (depths .exit)) ⌝ }
 {
     let at = p as usize;
     let cost = costs[at];
-    let deep = Deep {
-        calls: calls[at],
-        ifs: ifs[at],
-        loops: loops[at],
-    };
+    let deep = deep_at(depths, p);
     if fits_again(allowed, part, total, cost, deep) {
-        return Outcome {
-            scan: Scan::Go(total + part.weight * cost),
-            deep: opened_by(allowed, part.opens, deep),
-        };
+        return passed_again(allowed, part, total, cost, deep);
     }
-    let found = scan_part(
-        words,
-        allowed,
-        marks,
-        seen,
-        costs,
-        calls,
-        ifs,
-        loops,
-        part,
-        total,
-    );
+    let found = scan_part(words, allowed, marks, costs, depths, part, total);
     let scan = found.scan;
     let Scan::Go(after) = scan else {
         return found;
     };
     let reached = beyond_of(found.deep, part.opens);
-    remember(
-        costs,
-        calls,
-        ifs,
-        loops,
-        p,
-        (after - total) / part.weight,
-        reached,
-    );
+    let cost = (after - total) / part.weight;
+    remember(costs, depths, p, cost, reached);
     found
 }
 
-// Counts, marks and tests each word of a region, and goes into the parts that it asks for. `total` is what was counted before. `seen` has for each word from which
-// end of a region on it is known to go on, so that a word is decoded and a jump's target searched once, however often they are visited.
+// The same for the two parts of an IF at `p`. They are remembered only where no LOOP is open in the main or called region: with one around, a BREAK passes in them.
+fn enter_both(
+    words: &[u32],
+    allowed: Allowed,
+    marks: &mut [bool; 512],
+    costs: &mut [u32; 512],
+    depths: &mut [u32; 512],
+    p: u32,
+    yes: Part,
+    no: Part,
+    total: u32,
+) -> Outcome
+    requires { ⌜ Ready (codeOf (now words) 0) allowed yes (now marks) (now costs) (now depths) × (no .to .0 ≤ length (now words)) × AsksBoth (codeOf (now words) 0 .control p) p yes no × (p < 512) ⌝ }
+    ensures { λ r. ⌜ ScansBoth (codeOf (now (words .entry)) 0) allowed yes no total (now (marks .entry)) r (now (marks .exit)) (now (costs .exit)) (now (depths .exit)) ⌝ }
+{
+    let at = p as usize;
+    let cost = costs[at];
+    let deep = deep_at(depths, p);
+    if !yes.opens.looped & fits_again(allowed, yes, total, cost, deep) {
+        return passed_again(allowed, yes, total, cost, deep);
+    }
+    let first = scan_part(words, allowed, marks, costs, depths, yes, total);
+    let scan1 = first.scan;
+    let Scan::Go(between) = scan1 else {
+        return first;
+    };
+    let second = scan_part(words, allowed, marks, costs, depths, no, between);
+    let scan2 = second.scan;
+    let Scan::Go(after) = scan2 else {
+        return second;
+    };
+    let reached = deepest_of(first.deep, second.deep);
+    if !yes.opens.looped {
+        let cost = (after - total) / yes.weight;
+        remember(costs, depths, p, cost, beyond_of(reached, yes.opens));
+    }
+    Outcome {
+        scan: Scan::Go(after),
+        deep: reached,
+    }
+}
+
+// Counts, marks and tests each word of a region, and goes into the parts that it asks for. `total` is what was counted before. A jump's target is searched once,
+// however often the jump is visited.
 pub(crate) fn scan_part(
     words: &[u32],
     allowed: Allowed,
     marks: &mut [bool; 512],
-    seen: &mut [u32; 512],
     costs: &mut [u32; 512],
-    calls: &mut [u32; 512],
-    ifs: &mut [u32; 512],
-    loops: &mut [u32; 512],
+    depths: &mut [u32; 512],
     part: Part,
     total: u32,
 ) -> Outcome
-    requires { ⌜ Ready (codeOf (now words) 0) allowed part (now marks) (now seen) (now costs) (now calls) (now ifs) (now loops) ⌝ }
-    ensures { λ r. ⌜ Scans (codeOf (now (words .entry)) 0) allowed part total (now (marks .entry)) r (now (marks .exit)) (now (seen .exit)) (now (costs .exit)) (now (calls .exit)) (now (ifs .exit)) (now (loops .exit)) ⌝ }
+    requires { ⌜ Ready (codeOf (now words) 0) allowed part (now marks) (now costs) (now depths) ⌝ }
+    ensures { λ r. ⌜ Scans (codeOf (now (words .entry)) 0) allowed part total (now (marks .entry)) r (now (marks .exit)) (now (costs .exit)) (now (depths .exit)) ⌝ }
 {
     let end = part.to.0;
     let mut p = part.from.0;
@@ -217,7 +261,7 @@ pub(crate) fn scan_part(
         t = sum as u32;
         let at = p as usize;
         marks[at] = true;
-        if seen[at] <= end {
+        if goes_on(control_of(words[at]), costs[at], end) {
             p += 1;
             continue;
         }
@@ -225,70 +269,30 @@ pub(crate) fn scan_part(
             Look::Refuse(number) => {
                 return stop(number, p);
             }
-            Look::Next(known) => {
-                seen[at] = known;
+            Look::Next => {
+                costs[at] = 1;
                 p += 1;
             }
             Look::One(inner, next) => {
-                let first = enter(
-                    words,
-                    allowed,
-                    marks,
-                    seen,
-                    costs,
-                    calls,
-                    ifs,
-                    loops,
-                    p,
-                    inner,
-                    t,
-                );
-                let gone = first.scan;
+                let found = enter(words, allowed, marks, costs, depths, p, inner, t);
+                let gone = found.scan;
                 let Scan::Go(t1) = gone else {
-                    return first;
+                    return found;
                 };
-                let most1 = first.deep;
+                let most1 = found.deep;
                 deep = deepest_of(deep, most1);
                 t = t1;
                 p = next.0;
             }
             Look::Two(yes, no, next) => {
-                let first = scan_part(
-                    words,
-                    allowed,
-                    marks,
-                    seen,
-                    costs,
-                    calls,
-                    ifs,
-                    loops,
-                    yes,
-                    t,
-                );
-                let gone1 = first.scan;
-                let Scan::Go(t1) = gone1 else {
-                    return first;
+                let found = enter_both(words, allowed, marks, costs, depths, p, yes, no, t);
+                let gone = found.scan;
+                let Scan::Go(t1) = gone else {
+                    return found;
                 };
-                let second = scan_part(
-                    words,
-                    allowed,
-                    marks,
-                    seen,
-                    costs,
-                    calls,
-                    ifs,
-                    loops,
-                    no,
-                    t1,
-                );
-                let gone2 = second.scan;
-                let Scan::Go(t2) = gone2 else {
-                    return second;
-                };
-                let most1 = first.deep;
-                let most2 = second.deep;
-                deep = deepest_of(deepest_of(deep, most1), most2);
-                t = t2;
+                let most1 = found.deep;
+                deep = deepest_of(deep, most1);
+                t = t1;
                 p = next.0;
             }
         }
@@ -306,25 +310,11 @@ pub(crate) fn scan_main(
     marks: &mut [bool; 512],
     part: Part,
 ) -> Scan
-    requires { ⌜ (part .to .0 ≤ length (now words)) × (length (now words) ≤ 512) × Weighs allowed part × (length (now marks) ≡ 512) ⌝ }
+    requires { ⌜ (part .to .0 ≤ length (now words)) × (length (now words) ≤ 512) × Weighs allowed part × Under allowed (deepOf (part .opens)) × Small allowed × (length (now marks) ≡ 512) ⌝ }
     ensures { λ r. ⌜ scanned r (now (marks .exit)) ≡ scanOf (codeOf (now (words .entry)) 0) allowed part 0 (now (marks .entry)) ⌝ }
 {
-    let mut seen = [513u32; 512];
     let mut costs = [0u32; 512];
-    let mut calls = [0u32; 512];
-    let mut ifs = [0u32; 512];
-    let mut loops = [0u32; 512];
-    let outcome = scan_part(
-        words,
-        allowed,
-        marks,
-        &mut seen,
-        &mut costs,
-        &mut calls,
-        &mut ifs,
-        &mut loops,
-        part,
-        0,
-    );
+    let mut depths = [0u32; 512];
+    let outcome = scan_part(words, allowed, marks, &mut costs, &mut depths, part, 0);
     outcome.scan
 }

@@ -1,3 +1,4 @@
+pub mod ByOpcode
 pub mod Descriptors
 pub mod Formats
 pub mod Packing

@@ -3,8 +3,6 @@ ghost use mathlib.Core.Path.{_≡_};
 ghost use Prim.Native.Nat.{_<_};
 ghost use Rattle.instruction.specs.Operands.{descriptorOf, operatorsOf, sourceAt, maskOf, source1Of, source2Of, source3Of};
 use crate::decoding::MAD_DESC_BITS;
-use crate::operation::Format;
-use crate::operation::format_of;
 use bits::field;
 
 // The ID of the operand descriptor that a word uses. An unknown word uses none.
@@ -13,22 +11,19 @@ pub enum DescriptorId {
     Unused,
 }
 
-// Goes by the format: DESC starts at bit 0, and that of MAD and MADI is shorter.
+// Goes by ranges of opcodes. DESC starts at bit 0, and that of MAD and MADI is shorter.
 pub fn descriptor_of(word: u32) -> DescriptorId
     ensures { λ r. ⌜ r ≡ descriptorOf word ⌝ }
 {
-    match format_of(field(word, 26, 6)) {
-        Format::Unlisted => DescriptorId::Unused,
-        Format::F0 => DescriptorId::Unused,
-        Format::F1 => DescriptorId::Id(field(word, 0, 7)),
-        Format::F1i => DescriptorId::Id(field(word, 0, 7)),
-        Format::F1u => DescriptorId::Id(field(word, 0, 7)),
-        Format::F1c => DescriptorId::Id(field(word, 0, 7)),
-        Format::F2 => DescriptorId::Unused,
-        Format::F3 => DescriptorId::Unused,
-        Format::F4 => DescriptorId::Unused,
-        Format::F5 => DescriptorId::Id(field(word, 0, MAD_DESC_BITS)),
-        Format::F5i => DescriptorId::Id(field(word, 0, MAD_DESC_BITS)),
+    match field(word, 26, 6) {
+        0x00..=0x0f => DescriptorId::Id(field(word, 0, 7)),
+        0x10..=0x11 => DescriptorId::Unused,
+        0x12..=0x13 => DescriptorId::Id(field(word, 0, 7)),
+        0x14..=0x17 => DescriptorId::Unused,
+        0x18..=0x1b => DescriptorId::Id(field(word, 0, 7)),
+        0x1c..=0x2d => DescriptorId::Unused,
+        0x2e..=0x2f => DescriptorId::Id(field(word, 0, 7)),
+        _ => DescriptorId::Id(field(word, 0, MAD_DESC_BITS)),
     }
 }
 
@@ -39,22 +34,13 @@ pub enum CompareOperators {
     None,
 }
 
-// Goes by the format: only CMP has operators.
+// Only CMP, 2Eh and 2Fh, has operators.
 pub fn compare_operators_of(word: u32) -> CompareOperators
     ensures { λ r. ⌜ r ≡ operatorsOf word ⌝ }
 {
-    match format_of(field(word, 26, 6)) {
-        Format::Unlisted => CompareOperators::None,
-        Format::F0 => CompareOperators::None,
-        Format::F1 => CompareOperators::None,
-        Format::F1i => CompareOperators::None,
-        Format::F1u => CompareOperators::None,
-        Format::F1c => CompareOperators::Compares(field(word, 24, 3), field(word, 21, 3)),
-        Format::F2 => CompareOperators::None,
-        Format::F3 => CompareOperators::None,
-        Format::F4 => CompareOperators::None,
-        Format::F5 => CompareOperators::None,
-        Format::F5i => CompareOperators::None,
+    match field(word, 26, 6) {
+        0x2e..=0x2f => CompareOperators::Compares(field(word, 24, 3), field(word, 21, 3)),
+        _ => CompareOperators::None,
     }
 }
 

@@ -2,6 +2,7 @@
 use mathlib.Core.Path.{_≡_, refl, sym, _∙_}
 use mathlib.Core.Bool.{Bool, false}
 use lib.ListN.{length-replicate}
+use native.Mathlib.Omega.{arith}
 use borrow.Author.Needs.{needs}
 use Rattle.flow.specs.Rules.{fullRules}
 use Rattle.flow.specs.Visits.{mainTrace}
@@ -12,7 +13,7 @@ use Rattle.flow.proofs.entry.measure.Tie as tie
 scan-main-requires : tie.Need-scan-main-requires
 scan-main-requires c κs =
     let k = c .before .before in
-    (k .pre .1, k .pre .2, search needs, length-replicate {A = Bool} 512 false)
+    (k .pre .1, k .pre .2, search needs, (omega arith, omega arith, omega arith), (omega arith, omega arith, omega arith), length-replicate {A = Bool} 512 false)
 
 returns : tie.Need-returns
 unfolding mainTrace

@@ -27,4 +27,4 @@ returns-4 c =
     rw (lt-ltb _ _ (k .before .if1 .left), lt-ltb _ _ (k .if2 .left), sym (c .before .is-own .ensures) ∙ c .if3 .left)
 
 pub look-jump-spec : {M : Type 1} → statement M
-look-jump-spec = tie.close (tie.spec returns returns-2 (λ c. search needs) (λ c κs. search needs) (λ c. search needs) returns-3 returns-4)
+look-jump-spec = tie.close (tie.spec returns returns-2 (λ c. search needs) (λ c κs. search needs) returns-3 returns-4)

@@ -1,21 +1,21 @@
--- `scan::scan_main` meets its contract: nothing is known before. Assumes nothing.
+-- `scan::scan_main` meets its contract: nothing is remembered before. Assumes nothing.
 use borrow.Author.Needs.{needs}
 use Rattle.flow.specs.Flow.{codeOf}
-use Rattle.flow.proofs.Again.{none-seen}
 use Rattle.flow.proofs.Remembering.{memory-none}
 use Rattle.flow.proofs.scan.scan_main.Statement.{statement}
 use Rattle.flow.proofs.scan.scan_main.Tie as tie
 
 scan-part-requires : tie.Need-scan-part-requires
 scan-part-requires c κs =
-    let k = c .before .before .before .before .before .before .before in
+    let k = c .before .before .before .before in
     let C = codeOf (k .args .words .now) 0 in
     record {
       within = k .pre .0;
       few = k .pre .1;
       weighs = k .pre .2;
-      long = k .pre .3;
-      known = none-seen C (k .args .allowed) (k .pre .1);
+      under = k .pre .3;
+      small = k .pre .4;
+      long = k .pre .5;
       memory = memory-none C (k .args .allowed) (k .args .marks .now);
     }
 

@@ -1,51 +1,55 @@
--- `flow_control::control_of` meets its contract: what the arm of a format gives is what the definition gives at a word of that format. Assumes nothing.
-use mathlib.Core.Path.{_≡_, refl, sym, ap, _∙_}
+-- `flow_control::control_of` meets its contract: the definition gives the arm's value at each opcode of its range. Assumes nothing.
+use mathlib.Core.Path.{refl}
+use native.Mathlib.Omega.{arith}
 use borrow.Author.Needs.{needs}
-use Rattle.instruction.specs.Control.{control, controlOf, ofFormat0}
-use Rattle.instruction.specs.declared.flow_control.Control.{Control}
-use Rattle.instruction.specs.Operations.{formatOf}
-use Rattle.instruction.specs.Words.{decodeAs, decodeOf}
-use Rattle.instruction.specs.declared.operation.Format.{Format}
+use Rattle.bits.proofs.Laws.{field-lt}
+use Rattle.instruction.specs.Control.{control, controlOf}
+use Rattle.instruction.specs.Operations.{formatOf, operations}
+use Rattle.instruction.proofs.ByOpcode.{by-opcode}
 use Rattle.instruction.proofs.flow_control.control_of.Statement.{statement}
 use Rattle.instruction.proofs.flow_control.control_of.Tie as tie
 
-by-format : (b : tie.After-format-of) {f : Format} {r : Control} → b .format-of .result ≡ f
-    → r ≡ control (decodeAs f (b .before .before .args .word)) → r ≡ controlOf (b .before .before .args .word)
-unfolding controlOf decodeOf
-by-format b e h = rw (ap formatOf (sym (b .before .field .ensures)) ∙ sym (b .format-of .ensures) ∙ e) h
-
 returns : tie.Need-returns
-returns c = by-format (c .before .before) (c .enum-told .given .1) refl
+unfolding controlOf formatOf operations
+returns c =
+    let b = c .before in
+    by-opcode control (b .before .args .word) 0x00 16 refl (b .field .ensures) (omega arith) (omega arith)
 
 returns-2 : tie.Need-returns-2
-returns-2 c = by-format (c .before .before .before) (c .before .enum-told2 .given .1) (c .of-format-0 .ensures ∙ ap ofFormat0 (c .before .before .before .before .field .ensures))
+unfolding controlOf formatOf operations
+returns-2 c =
+    let b = c .before .before in
+    by-opcode control (b .before .args .word) 0x10 2 refl (b .field .ensures) (omega arith) (omega arith)
 
 returns-3 : tie.Need-returns-3
-returns-3 c = by-format (c .before .before) (c .enum-told3 .given .1) refl
+unfolding controlOf formatOf operations
+returns-3 c =
+    let b = c .before .before .before in
+    by-opcode control (b .before .args .word) 0x12 2 refl (b .field .ensures) (omega arith) (omega arith)
 
 returns-4 : tie.Need-returns-4
-returns-4 c = by-format (c .before .before) (c .enum-told4 .given .1) refl
+unfolding controlOf formatOf operations
+returns-4 c =
+    let b = c .before .before .before .before in
+    by-opcode control (b .before .args .word) 0x14 4 refl (b .field .ensures) (omega arith) (omega arith)
 
 returns-5 : tie.Need-returns-5
-returns-5 c = by-format (c .before .before) (c .enum-told5 .given .1) refl
+unfolding controlOf formatOf operations
+returns-5 c =
+    let b = c .before .before .before .before .before in
+    by-opcode control (b .before .args .word) 0x18 4 refl (b .field .ensures) (omega arith) (omega arith)
 
 returns-6 : tie.Need-returns-6
-returns-6 c = by-format (c .before .before) (c .enum-told6 .given .1) refl
-
-returns-7 : tie.Need-returns-7
-returns-7 c = by-format (c .before .before .before .before .before) (c .before .before .before .enum-told7 .given .1) (cc)
+unfolding controlOf formatOf operations
+returns-6 c =
+    let b = c .before .before .before .before .before .before in
+    by-opcode control (b .before .args .word) 0x1c 4 refl (b .field .ensures) (omega arith) (omega arith)
 
 returns-8 : tie.Need-returns-8
-returns-8 c = by-format (c .before .before .before .before .before .before) (c .before .before .before .before .enum-told8 .given .1) (cc)
-
-returns-9 : tie.Need-returns-9
-returns-9 c = by-format (c .before .before) (c .enum-told9 .given .1) refl
-
-returns-10 : tie.Need-returns-10
-returns-10 c = by-format (c .before .before) (c .enum-told10 .given .1) refl
-
-returns-11 : tie.Need-returns-11
-returns-11 c = by-format (c .before .before) (c .enum-told11 .given .1) refl
+unfolding controlOf formatOf operations
+returns-8 c =
+    let b = c .before .before .before .before .before .before .before in
+    by-opcode control (b .before .args .word) 0x2e 18 refl (b .field .ensures) (omega arith) (omega (arith, b .field .ensures, field-lt 26 6 (b .before .args .word)))
 
 pub control-of-spec : {M : Type 1} → statement M
 control-of-spec =
@@ -53,33 +57,11 @@ control-of-spec =
     (tie.spec
     (λ c κs. search needs)
     (λ c κs. search needs)
-    (λ c. search needs)
-    (λ c. search needs)
-    (λ c κs. search needs)
-    (λ c. search needs)
-    (λ c. search needs)
-    (λ c. search needs)
-    (λ c. search needs)
-    (λ c. search needs)
-    (λ c κs. search needs)
-    (λ c κs. search needs)
-    (λ c κs. search needs)
-    (λ c. search needs)
-    (λ c κs. search needs)
-    (λ c κs. search needs)
-    (λ c κs. search needs)
-    (λ c κs. search needs)
-    (λ c. search needs)
-    (λ c. search needs)
-    (λ c. search needs)
     returns
     returns-2
     returns-3
     returns-4
     returns-5
     returns-6
-    returns-7
-    returns-8
-    returns-9
-    returns-10
-    returns-11)
+    (λ c. search needs)
+    returns-8)

@@ -1,52 +1,62 @@
--- `operand::descriptor_of` meets its contract: what the arm of a format gives is what the definition gives at a word of that format. Assumes nothing.
-use mathlib.Core.Path.{_≡_, refl, sym, ap, _∙_}
+-- `operand::descriptor_of` meets its contract: the definition gives the arm's value at each opcode of its range. Assumes nothing.
+use mathlib.Core.Path.{refl, ap, _∙_}
+use native.Mathlib.Omega.{arith}
 use borrow.Author.Needs.{needs}
+use Rattle.bits.proofs.Laws.{field-lt}
 use Rattle.instruction.specs.Operands.{descriptor, descriptorOf}
-use Rattle.instruction.specs.declared.operand.DescriptorId.{DescriptorId}
+use Rattle.instruction.specs.Operations.{formatOf, operations}
 use Rattle.instruction.specs.declared.operand.DescriptorId.the-variants.{Id}
-use Rattle.instruction.specs.Operations.{formatOf}
-use Rattle.instruction.specs.Words.{decodeAs, decodeOf}
-use Rattle.instruction.specs.declared.operation.Format.{Format}
+use Rattle.instruction.proofs.ByOpcode.{by-opcode}
 use Rattle.instruction.proofs.operand.descriptor_of.Statement.{statement}
 use Rattle.instruction.proofs.operand.descriptor_of.Tie as tie
 
-by-format : (b : tie.After-format-of) {f : Format} {r : DescriptorId} → b .format-of .result ≡ f
-    → r ≡ descriptor (decodeAs f (b .before .before .args .word)) → r ≡ descriptorOf (b .before .before .args .word)
-unfolding descriptorOf decodeOf
-by-format b e h = rw (ap formatOf (sym (b .before .field .ensures)) ∙ sym (b .format-of .ensures) ∙ e) h
-
 returns : tie.Need-returns
-returns c = by-format (c .before .before) (c .enum-told .given .1) refl
+unfolding descriptorOf formatOf operations
+returns c =
+    let b = c .before .before in
+    ap Id (c .field2 .ensures) ∙ by-opcode descriptor (b .before .args .word) 0x00 16 refl (b .field .ensures) (omega arith) (omega arith)
 
 returns-2 : tie.Need-returns-2
-returns-2 c = by-format (c .before .before) (c .enum-told2 .given .1) refl
+unfolding descriptorOf formatOf operations
+returns-2 c =
+    let b = c .before .before in
+    by-opcode descriptor (b .before .args .word) 0x10 2 refl (b .field .ensures) (omega arith) (omega arith)
 
 returns-3 : tie.Need-returns-3
-returns-3 c = by-format (c .before .before .before) (c .before .enum-told3 .given .1) (ap Id (c .field2 .ensures))
+unfolding descriptorOf formatOf operations
+returns-3 c =
+    let b = c .before .before .before .before in
+    ap Id (c .field3 .ensures) ∙ by-opcode descriptor (b .before .args .word) 0x12 2 refl (b .field .ensures) (omega arith) (omega arith)
 
 returns-4 : tie.Need-returns-4
-returns-4 c = by-format (c .before .before .before) (c .before .enum-told4 .given .1) (ap Id (c .field3 .ensures))
+unfolding descriptorOf formatOf operations
+returns-4 c =
+    let b = c .before .before .before .before in
+    by-opcode descriptor (b .before .args .word) 0x14 4 refl (b .field .ensures) (omega arith) (omega arith)
 
 returns-5 : tie.Need-returns-5
-returns-5 c = by-format (c .before .before .before) (c .before .enum-told5 .given .1) (ap Id (c .field4 .ensures))
+unfolding descriptorOf formatOf operations
+returns-5 c =
+    let b = c .before .before .before .before .before .before in
+    ap Id (c .field4 .ensures) ∙ by-opcode descriptor (b .before .args .word) 0x18 4 refl (b .field .ensures) (omega arith) (omega arith)
 
 returns-6 : tie.Need-returns-6
-returns-6 c = by-format (c .before .before .before) (c .before .enum-told6 .given .1) (ap Id (c .field5 .ensures))
+unfolding descriptorOf formatOf operations
+returns-6 c =
+    let b = c .before .before .before .before .before .before in
+    by-opcode descriptor (b .before .args .word) 0x1c 18 refl (b .field .ensures) (omega arith) (omega arith)
 
 returns-7 : tie.Need-returns-7
-returns-7 c = by-format (c .before .before) (c .enum-told7 .given .1) refl
+unfolding descriptorOf formatOf operations
+returns-7 c =
+    let b = c .before .before .before .before .before .before .before .before in
+    ap Id (c .field5 .ensures) ∙ by-opcode descriptor (b .before .args .word) 0x2e 2 refl (b .field .ensures) (omega arith) (omega arith)
 
 returns-8 : tie.Need-returns-8
-returns-8 c = by-format (c .before .before) (c .enum-told8 .given .1) refl
-
-returns-9 : tie.Need-returns-9
-returns-9 c = by-format (c .before .before) (c .enum-told9 .given .1) refl
-
-returns-10 : tie.Need-returns-10
-returns-10 c = by-format (c .before .before .before) (c .before .enum-told10 .given .1) (ap Id (c .field6 .ensures))
-
-returns-11 : tie.Need-returns-11
-returns-11 c = by-format (c .before .before .before) (c .before .enum-told11 .given .1) (ap Id (c .field7 .ensures))
+unfolding descriptorOf formatOf operations
+returns-8 c =
+    let b = c .before .before .before .before .before .before .before .before in
+    ap Id (c .field6 .ensures) ∙ by-opcode descriptor (b .before .args .word) 0x30 16 refl (b .field .ensures) (omega arith) (omega (arith, b .field .ensures, field-lt 26 6 (b .before .args .word)))
 
 pub descriptor-of-spec : {M : Type 1} → statement M
 descriptor-of-spec =
@@ -54,22 +64,9 @@ descriptor-of-spec =
     (tie.spec
     (λ c κs. search needs)
     (λ c κs. search needs)
-    (λ c. search needs)
-    (λ c. search needs)
-    (λ c. search needs)
     (λ c κs. search needs)
-    (λ c. search needs)
     (λ c κs. search needs)
-    (λ c. search needs)
     (λ c κs. search needs)
-    (λ c. search needs)
-    (λ c κs. search needs)
-    (λ c. search needs)
-    (λ c. search needs)
-    (λ c. search needs)
-    (λ c. search needs)
-    (λ c κs. search needs)
-    (λ c. search needs)
     (λ c κs. search needs)
     returns
     returns-2
@@ -78,7 +75,4 @@ descriptor-of-spec =
     returns-5
     returns-6
     returns-7
-    returns-8
-    returns-9
-    returns-10
-    returns-11)
+    returns-8)

@@ -1,0 +1,581 @@
+-- `scan::enter`, `scan::enter_both` and `scan::scan_part` meet their contracts: a region is scanned own word by own word, or remembered. Assumes nothing.
+use mathlib.Core.Path.{_≡_, refl, sym, ap, _∙_}
+use mathlib.Core.Bool.{not}
+use Prim.Native.Nat.{ℕ, _+_, _*_, _-_, _^_, _≤_, _<_, max}
+use native.Mathlib.Nat.{le-max-left, le-max-right, max-le}
+use native.Mathlib.Omega.{arith}
+use borrow.Author.Needs.{needs}
+use lib.ListN.{getD}
+use Rattle.flow.specs.Flow.{codeOf}
+use Rattle.flow.specs.Inside.{rulesOf, goesOn, passedAgain}
+use Rattle.flow.specs.Visits.{size}
+use Rattle.flow.proofs.Looks.{light, heavy, later, fits-at}
+use Rattle.flow.proofs.Remembering.{asks-one, asks-both, fits-known}
+use Rattle.flow.proofs.Standing.{Standing, standing-first, standing-end, standing-27, standing-known, standing-next, standing-refuse, one-stopped, one-passed, two-stopped, two-passed, ready-part, ready-second, few-beyond, recalled-scans, remembered-scans, recalled-both-scans, both-stopped, both-stopped-2, left-both, both-passed, both-remembered}
+use Rattle.flow.proofs.Tests.{both, not-true}
+use borrow.Fn.Kinds.{In}
+use borrow.Fn.PlainCycle.{Measures, is, falls, and}
+use Rattle.flow.proofs.scan.enter.Reads as enter
+use Rattle.flow.proofs.scan.enter.Kinds as enter-kinds
+use Rattle.flow.proofs.scan.+enter+enter_both+scan_part.Lts-enter as enter-lts
+use Rattle.flow.proofs.scan.enter_both.Reads as enter-both
+use Rattle.flow.proofs.scan.enter_both.Kinds as enter-both-kinds
+use Rattle.flow.proofs.scan.+enter+enter_both+scan_part.Lts-enter_both as enter-both-lts
+use Rattle.flow.proofs.scan.scan_part.Reads as scan-part
+use Rattle.flow.proofs.scan.scan_part.Kinds as scan-part-kinds
+use Rattle.flow.proofs.scan.+enter+enter_both+scan_part.Lts-scan_part as scan-part-lts
+use Rattle.flow.proofs.look.look_at.Reads as look-at-reads
+use Rattle.flow.proofs.scan.beyond_of.Reads as beyond-of-reads
+use Rattle.flow.proofs.scan.deep_at.Reads as deep-at-reads
+use Rattle.flow.proofs.scan.deep_of.Reads as deep-of-reads
+use Rattle.flow.proofs.scan.deepest_of.Reads as deepest-of-reads
+use Rattle.flow.proofs.scan.fits_again.Reads as fits-again-reads
+use Rattle.flow.proofs.scan.goes_on.Reads as goes-on-reads
+use Rattle.flow.proofs.scan.passed_again.Reads as passed-again-reads
+use Rattle.flow.proofs.scan.remember.Reads as remember-reads
+use Rattle.flow.proofs.scan.stop.Reads as stop-reads
+use Rattle.instruction.proofs.control_of.Reads as control-of-reads
+use Rattle.flow.proofs.scan.+enter+enter_both+scan_part.{statement}
+use Rattle.flow.proofs.scan.+enter+enter_both+scan_part.Tie.{close}
+
+abbrev μ-enter : Measures 4 enter-kinds.ps ℕ
+μ-enter κs a = let part = a .1 .1 .1 .1 .1 .1 .0 in 2 * size (codeOf (a .0 .now) 0) (rulesOf (a .1 .0)) (part .opens) (part .from .0) (part .to .0) + 1
+
+-- of the larger of the two parts
+abbrev μ-enter-both : Measures 4 enter-both-kinds.ps ℕ
+μ-enter-both κs a = let yes = a .1 .1 .1 .1 .1 .1 .0 in let no = a .1 .1 .1 .1 .1 .1 .1 .0 in 2 * max (size (codeOf (a .0 .now) 0) (rulesOf (a .1 .0)) (yes .opens) (yes .from .0) (yes .to .0)) (size (codeOf (a .0 .now) 0) (rulesOf (a .1 .0)) (no .opens) (no .from .0) (no .to .0)) + 1
+
+abbrev μ-scan-part : Measures 4 scan-part-kinds.ps ℕ
+μ-scan-part κs a = let part = a .1 .1 .1 .1 .1 .0 in 2 * size (codeOf (a .0 .now) 0) (rulesOf (a .1 .0)) (part .opens) (part .from .0) (part .to .0)
+
+abbrev enter-at : ℕ → In 4 enter-kinds.ps
+enter-at t = and 4 enter-kinds.ps (is 4 enter-kinds.ps μ-enter t) enter.Pre
+
+abbrev enter-below : ℕ → In 4 enter-kinds.ps
+enter-below t = and 4 enter-kinds.ps (falls 4 enter-kinds.ps _<_ μ-enter t) enter.Pre
+
+abbrev enter-both-at : ℕ → In 4 enter-both-kinds.ps
+enter-both-at t =
+    and 4 enter-both-kinds.ps (is 4 enter-both-kinds.ps μ-enter-both t) enter-both.Pre
+
+abbrev enter-both-below : ℕ → In 4 enter-both-kinds.ps
+enter-both-below t =
+    and 4 enter-both-kinds.ps (falls 4 enter-both-kinds.ps _<_ μ-enter-both t) enter-both.Pre
+
+abbrev scan-part-at : ℕ → In 4 scan-part-kinds.ps
+scan-part-at t = and 4 scan-part-kinds.ps (is 4 scan-part-kinds.ps μ-scan-part t) scan-part.Pre
+
+abbrev scan-part-below : ℕ → In 4 scan-part-kinds.ps
+scan-part-below t =
+    and 4 scan-part-kinds.ps (falls 4 scan-part-kinds.ps _<_ μ-scan-part t) scan-part.Pre
+
+abbrev enter-claims : ℕ → enter-lts.Claims
+enter-claims t = (deep-at-reads.Asked, deep-at-reads.Learnt, fits-again-reads.Asked, fits-again-reads.Learnt, passed-again-reads.Asked, passed-again-reads.Learnt, scan-part-below t, scan-part.Post, beyond-of-reads.Asked, beyond-of-reads.Learnt, remember-reads.Asked, remember-reads.Learnt)
+
+abbrev both-claims : ℕ → enter-both-lts.Claims
+both-claims t = (deep-at-reads.Asked, deep-at-reads.Learnt, fits-again-reads.Asked, fits-again-reads.Learnt, passed-again-reads.Asked, passed-again-reads.Learnt, scan-part-below t, scan-part.Post, deepest-of-reads.Asked, deepest-of-reads.Learnt, beyond-of-reads.Asked, beyond-of-reads.Learnt, remember-reads.Asked, remember-reads.Learnt)
+
+abbrev claims : ℕ → scan-part-lts.Claims
+claims t = (deep-of-reads.Asked, deep-of-reads.Learnt, stop-reads.Asked, stop-reads.Learnt, control-of-reads.Asked, control-of-reads.Learnt, goes-on-reads.Asked, goes-on-reads.Learnt, look-at-reads.Asked, look-at-reads.Learnt, enter-below t, enter.Post, deepest-of-reads.Asked, deepest-of-reads.Learnt, enter-both-below t, enter-both.Post)
+
+max-lt : {a b k : ℕ} → a < k → b < k → max a b < k
+max-lt {a} {b} {k} h g = omega (arith, max-le {a = a} {b = b} {k = k - 1} (omega (arith, h)) (omega (arith, g)))
+
+enter-mul-cost : (t : ℕ) → enter-lts.Need-mul-cost (enter-claims t) (enter-at t) enter.Post
+enter-mul-cost t c = search needs
+
+enter-element-copy-out-cost : (t : ℕ) → enter-lts.Need-element-copy-out-cost (enter-claims t) (enter-at t) enter.Post
+enter-element-copy-out-cost t c = omega (arith, c .before .pre .1 .2)
+
+enter-deep-at-requires : (t : ℕ) → enter-lts.Need-deep-at-requires (enter-claims t) (enter-at t) enter.Post
+enter-deep-at-requires t c κs = c .before .before .before .pre .1 .2
+
+enter-fits-again-requires : (t : ℕ) → enter-lts.Need-fits-again-requires (enter-claims t) (enter-at t) enter.Post
+enter-fits-again-requires t c κs =
+    let k = c .before .before .before .before in
+    let C = codeOf (k .args .words .now) 0 in
+    omega (arith, k .pre .1 .0 .weighs .0, light (k .args .part .opens .loops) (omega (arith, k .pre .1 .0 .weighs)))
+
+enter-passed-again-requires : (t : ℕ) → enter-lts.Need-passed-again-requires (enter-claims t) (enter-at t) enter.Post
+enter-passed-again-requires t c κs =
+    let k = c .before .before .before .before .before .before in
+    let C = codeOf (k .args .words .now) 0 in
+    let g = fits-known C (k .args .allowed) (k .args .part) (k .args .total) (getD (k .args .costs .now) (k .args .p) 0) (c .before .before .deep-at .result) (k .args .marks .now) (sym (c .before .fits-again .ensures) ∙ c .if1 .taken) in
+    (g .room, g .fits)
+
+enter-returns : (t : ℕ) → enter-lts.Need-returns (enter-claims t) (enter-at t) enter.Post
+enter-returns t c =
+    let k = c .before .before .before .before .before .before .before in
+    let C = codeOf (k .args .words .now) 0 in
+    let d = c .before .before .before .deep-at .ensures in
+    let g = fits-known C (k .args .allowed) (k .args .part) (k .args .total) (getD (k .args .costs .now) (k .args .p) 0) (c .before .before .before .deep-at .result) (k .args .marks .now) (sym (c .before .before .fits-again .ensures) ∙ c .before .if1 .taken) in
+    recalled-scans C (k .args .allowed) (k .args .part) (k .args .total) (k .args .p) (k .args .marks .now) (k .pre .1 .0) (k .pre .1 .1) (rw d at g) (c .passed-again .ensures ∙ ap (λ y. passedAgain (k .args .part) (k .args .total) (getD (k .args .costs .now) (k .args .p) 0) y) d)
+
+enter-scan-part-requires : (t : ℕ) → enter-lts.Need-scan-part-requires (enter-claims t) (enter-at t) enter.Post
+enter-scan-part-requires t c κs =
+    let k = c .before .before .before .before .before .before .before .before .before in
+    (omega (arith, k .pre .0), k .pre .1 .0)
+
+enter-enum-known-scan : (t : ℕ) → enter-lts.Need-enum-known-scan (enter-claims t) (enter-at t) enter.Post
+enter-enum-known-scan t c = search needs
+
+enter-enum-told : (t : ℕ) → enter-lts.Need-enum-told (enter-claims t) (enter-at t) enter.Post
+enter-enum-told t c = search needs
+
+enter-returns-2 : (t : ℕ) → enter-lts.Need-returns-2 (enter-claims t) (enter-at t) enter.Post
+enter-returns-2 t c = c .before .before .scan-part .ensures
+
+enter-beyond-of-requires : (t : ℕ) → enter-lts.Need-beyond-of-requires (enter-claims t) (enter-at t) enter.Post
+enter-beyond-of-requires t c κs = c .before .before .before .scan-part .ensures .left _ (c .before .scan .given .1) .over
+
+enter-sub-cost : (t : ℕ) → enter-lts.Need-sub-cost (enter-claims t) (enter-at t) enter.Post
+enter-sub-cost t c = omega (arith, c .before .before .before .before .scan-part .ensures .left _ (c .before .before .scan .given .1) .adds)
+
+enter-div-cost : (t : ℕ) → enter-lts.Need-div-cost (enter-claims t) (enter-at t) enter.Post
+enter-div-cost t c =
+    let k = c .before .before .before .before .before .before .before .before .before .before .before .before .before .before .before in
+    omega (arith, k .pre .1 .0 .weighs .0, heavy (k .args .part .opens .loops))
+
+enter-remember-requires : (t : ℕ) → enter-lts.Need-remember-requires (enter-claims t) (enter-at t) enter.Post
+enter-remember-requires t c κs =
+    let k = c .before .before .before .before .before .before .before .before .before .before .before .before .before .before .before .before .before in
+    let C = codeOf (k .args .words .now) 0 in
+    let l = c .before .before .before .before .before .before .before .scan-part .ensures .left _ (c .before .before .before .before .before .scan .given .1) in
+    let s = few-beyond (k .args .allowed) _ (k .args .part .opens) (c .before .before .before .beyond-of .ensures) (k .pre .1 .0 .small) (l .under) in
+    (k .pre .1 .2, s .0, s .1, s .2)
+
+enter-returns-3 : (t : ℕ) → enter-lts.Need-returns-3 (enter-claims t) (enter-at t) enter.Post
+enter-returns-3 t c =
+    let k = c .before .before .before .before .before .before .before .before .before .before .before .before .before .before .before .before .before .before in
+    let C = codeOf (k .args .words .now) 0 in
+    let r = c .remember .ensures in
+    remembered-scans C (k .args .allowed) (k .args .part) (k .args .total) (k .args .p) (k .args .marks .now) (k .pre .1 .0) (k .pre .1 .1) (c .before .before .before .before .before .before .before .before .scan-part .ensures) (k .pre .1 .2) (omega (arith, k .pre .1 .0 .weighs .0, heavy (k .args .part .opens .loops))) (c .before .before .before .before .before .before .scan .given .1) refl (c .before .before .before .before .beyond-of .ensures) (r .0) (r .1)
+
+both-mul-cost : (t : ℕ) → enter-both-lts.Need-mul-cost (both-claims t) (enter-both-at t) enter-both.Post
+both-mul-cost t c = search needs
+
+both-element-copy-out-cost : (t : ℕ) → enter-both-lts.Need-element-copy-out-cost (both-claims t) (enter-both-at t) enter-both.Post
+both-element-copy-out-cost t c = omega (arith, c .before .pre .1 .3)
+
+both-deep-at-requires : (t : ℕ) → enter-both-lts.Need-deep-at-requires (both-claims t) (enter-both-at t) enter-both.Post
+both-deep-at-requires t c κs = c .before .before .before .pre .1 .3
+
+both-fits-again-requires : (t : ℕ) → enter-both-lts.Need-fits-again-requires (both-claims t) (enter-both-at t) enter-both.Post
+both-fits-again-requires t c κs =
+    let k = c .before .before .before .before .before in
+    let C = codeOf (k .args .words .now) 0 in
+    omega (arith, k .pre .1 .0 .weighs .0, light (k .args .yes .opens .loops) (omega (arith, k .pre .1 .0 .weighs)))
+
+both-passed-again-requires : (t : ℕ) → enter-both-lts.Need-passed-again-requires (both-claims t) (enter-both-at t) enter-both.Post
+both-passed-again-requires t c κs =
+    let k = c .before .before .before .before .before .before .before in
+    let C = codeOf (k .args .words .now) 0 in
+    let g = fits-known C (k .args .allowed) (k .args .yes) (k .args .total) (getD (k .args .costs .now) (k .args .p) 0) (c .before .before .before .deep-at .result) (k .args .marks .now) (sym (c .before .fits-again .ensures) ∙ both (not (k .args .yes .opens .looped)) (c .before .fits-again .result) (c .if1 .taken) .1) in
+    (g .room, g .fits)
+
+both-returns : (t : ℕ) → enter-both-lts.Need-returns (both-claims t) (enter-both-at t) enter-both.Post
+both-returns t c =
+    let k = c .before .before .before .before .before .before .before .before in
+    let C = codeOf (k .args .words .now) 0 in
+    let d = c .before .before .before .before .deep-at .ensures in
+    let g = fits-known C (k .args .allowed) (k .args .yes) (k .args .total) (getD (k .args .costs .now) (k .args .p) 0) (c .before .before .before .before .deep-at .result) (k .args .marks .now) (sym (c .before .before .fits-again .ensures) ∙ both (not (k .args .yes .opens .looped)) (c .before .before .fits-again .result) (c .before .if1 .taken) .1) in
+    recalled-both-scans C (k .args .allowed) (k .args .yes) (k .args .no) (k .args .total) (k .args .p) (k .args .marks .now) (k .pre .1 .0) (k .pre .1 .2) (not-true _ (both (not (k .args .yes .opens .looped)) (c .before .before .fits-again .result) (c .before .if1 .taken) .0)) (rw d at g) (c .passed-again .ensures ∙ ap (λ y. passedAgain (k .args .yes) (k .args .total) (getD (k .args .costs .now) (k .args .p) 0) y) d)
+
+both-scan-part-requires : (t : ℕ) → enter-both-lts.Need-scan-part-requires (both-claims t) (enter-both-at t) enter-both.Post
+both-scan-part-requires t c κs =
+    let k = c .before .before .before .before .before .before .before .before .before .before in
+    (omega (arith, k .pre .0, le-max-left (size (codeOf (k .args .words .now) 0) (rulesOf (k .args .allowed)) (k .args .yes .opens) (k .args .yes .from .0) (k .args .yes .to .0)) (size (codeOf (k .args .words .now) 0) (rulesOf (k .args .allowed)) (k .args .no .opens) (k .args .no .from .0) (k .args .no .to .0))), k .pre .1 .0)
+
+both-enum-known-scan1 : (t : ℕ) → enter-both-lts.Need-enum-known-scan1 (both-claims t) (enter-both-at t) enter-both.Post
+both-enum-known-scan1 t c = search needs
+
+both-enum-told : (t : ℕ) → enter-both-lts.Need-enum-told (both-claims t) (enter-both-at t) enter-both.Post
+both-enum-told t c = search needs
+
+both-returns-2 : (t : ℕ) → enter-both-lts.Need-returns-2 (both-claims t) (enter-both-at t) enter-both.Post
+both-returns-2 t c =
+    let k = c .before .before .before .before .before .before .before .before .before .before .before .before .before in
+    let C = codeOf (k .args .words .now) 0 in
+    both-stopped C (k .args .allowed) (k .args .yes) (k .args .no) (k .args .total) (k .args .p) (k .args .marks .now) (k .pre .1 .0) (k .pre .1 .2) (c .before .before .scan-part .ensures) (c .enum-told .given .1)
+
+both-scan-part-requires-2 : (t : ℕ) → enter-both-lts.Need-scan-part-requires-2 (both-claims t) (enter-both-at t) enter-both.Post
+both-scan-part-requires-2 t c κs =
+    let k = c .before .before .before .before .before .before .before .before .before .before .before .before .before .before .before .before .before in
+    (omega (arith, k .pre .0, le-max-right (size (codeOf (k .args .words .now) 0) (rulesOf (k .args .allowed)) (k .args .yes .opens) (k .args .yes .from .0) (k .args .yes .to .0)) (size (codeOf (k .args .words .now) 0) (rulesOf (k .args .allowed)) (k .args .no .opens) (k .args .no .from .0) (k .args .no .to .0))), ready-second (k .pre .1 .0) (k .pre .1 .2) (c .before .before .before .before .before .before .scan-part .ensures) (k .pre .1 .1))
+
+both-enum-known-scan2 : (t : ℕ) → enter-both-lts.Need-enum-known-scan2 (both-claims t) (enter-both-at t) enter-both.Post
+both-enum-known-scan2 t c = search needs
+
+both-enum-told-2 : (t : ℕ) → enter-both-lts.Need-enum-told-2 (both-claims t) (enter-both-at t) enter-both.Post
+both-enum-told-2 t c = search needs
+
+both-returns-3 : (t : ℕ) → enter-both-lts.Need-returns-3 (both-claims t) (enter-both-at t) enter-both.Post
+both-returns-3 t c =
+    let k = c .before .before .before .before .before .before .before .before .before .before .before .before .before .before .before .before .before .before .before .before in
+    let C = codeOf (k .args .words .now) 0 in
+    both-stopped-2 C (k .args .allowed) (k .args .yes) (k .args .no) (k .args .total) (k .args .p) (k .args .marks .now) (k .pre .1 .0) (k .pre .1 .2) (c .before .before .before .before .before .before .before .before .before .scan-part .ensures) (c .before .before .before .before .before .before .before .scan1 .given .1) (c .before .before .scan-part2 .ensures) (c .enum-told2 .given .1)
+
+both-deepest-of-requires : (t : ℕ) → enter-both-lts.Need-deepest-of-requires (both-claims t) (enter-both-at t) enter-both.Post
+both-deepest-of-requires t c κs = search needs
+
+both-sub-cost : (t : ℕ) → enter-both-lts.Need-sub-cost (both-claims t) (enter-both-at t) enter-both.Post
+both-sub-cost t c = omega (arith, c .before .before .before .before .before .before .before .before .before .before .before .before .before .scan-part .ensures .left _ (c .before .before .before .before .before .before .before .before .before .before .before .scan1 .given .1) .adds, c .before .before .before .before .before .before .scan-part2 .ensures .left _ (c .before .before .before .before .scan2 .given .1) .adds)
+
+both-div-cost : (t : ℕ) → enter-both-lts.Need-div-cost (both-claims t) (enter-both-at t) enter-both.Post
+both-div-cost t c =
+    let k = c .before .before .before .before .before .before .before .before .before .before .before .before .before .before .before .before .before .before .before .before .before .before .before .before .before in
+    omega (arith, k .pre .1 .0 .weighs .0, heavy (k .args .yes .opens .loops))
+
+both-beyond-of-requires : (t : ℕ) → enter-both-lts.Need-beyond-of-requires (both-claims t) (enter-both-at t) enter-both.Post
+both-beyond-of-requires t c κs =
+    let k = c .before .before .before .before .before .before .before .before .before .before .before .before .before .before .before .before .before .before .before .before .before .before .before .before .before .before .before in
+    let C = codeOf (k .args .words .now) 0 in
+    left-both C (k .args .allowed) (k .args .yes) (k .args .no) (k .args .total) (k .args .p) (k .args .marks .now) (k .pre .1 .0) (k .pre .1 .2) (c .before .before .before .before .before .before .before .before .before .before .before .before .before .before .before .before .scan-part .ensures) (c .before .before .before .before .before .before .before .before .before .before .before .before .before .before .scan1 .given .1) (c .before .before .before .before .before .before .before .before .before .scan-part2 .ensures) (c .before .before .before .before .before .before .before .scan2 .given .1) (c .before .before .before .before .before .deepest-of .ensures) .over
+
+both-remember-requires : (t : ℕ) → enter-both-lts.Need-remember-requires (both-claims t) (enter-both-at t) enter-both.Post
+both-remember-requires t c κs =
+    let k = c .before .before .before .before .before .before .before .before .before .before .before .before .before .before .before .before .before .before .before .before .before .before .before .before .before .before .before .before in
+    let C = codeOf (k .args .words .now) 0 in
+    let s = few-beyond (k .args .allowed) _ (k .args .yes .opens) (c .beyond-of .ensures) (k .pre .1 .0 .small) (left-both C (k .args .allowed) (k .args .yes) (k .args .no) (k .args .total) (k .args .p) (k .args .marks .now) (k .pre .1 .0) (k .pre .1 .2) (c .before .before .before .before .before .before .before .before .before .before .before .before .before .before .before .before .before .scan-part .ensures) (c .before .before .before .before .before .before .before .before .before .before .before .before .before .before .before .scan1 .given .1) (c .before .before .before .before .before .before .before .before .before .before .scan-part2 .ensures) (c .before .before .before .before .before .before .before .before .scan2 .given .1) (c .before .before .before .before .before .before .deepest-of .ensures) .under) in
+    (k .pre .1 .3, s .0, s .1, s .2)
+
+both-returns-4 : (t : ℕ) → enter-both-lts.Need-returns-4 (both-claims t) (enter-both-at t) enter-both.Post
+both-returns-4 t c =
+    let k = c .before .before .before .before .before .before .before .before .before .before .before .before .before .before .before .before .before .before .before .before .before .before .before .before .before .before .before .before .before in
+    let C = codeOf (k .args .words .now) 0 in
+    let r = c .remember .ensures in
+    both-remembered C (k .args .allowed) (k .args .yes) (k .args .no) (k .args .total) (k .args .p) (k .args .marks .now) (k .pre .1 .0) (k .pre .1 .2) (c .before .before .before .before .before .before .before .before .before .before .before .before .before .before .before .before .before .before .scan-part .ensures) (c .before .before .before .before .before .before .before .before .before .before .before .before .before .before .before .before .scan1 .given .1) (c .before .before .before .before .before .before .before .before .before .before .before .scan-part2 .ensures) (c .before .before .before .before .before .before .before .before .before .scan2 .given .1) (c .before .before .before .before .before .before .before .deepest-of .ensures) refl refl (not-true _ (c .before .before .before .before .before .if2 .taken)) (k .pre .1 .3) (omega (arith, k .pre .1 .0 .weighs .0, heavy (k .args .yes .opens .loops))) refl (c .before .beyond-of .ensures) (r .0) (r .1)
+
+both-returns-5 : (t : ℕ) → enter-both-lts.Need-returns-5 (both-claims t) (enter-both-at t) enter-both.Post
+both-returns-5 t c =
+    let k = c .before .before .before .before .before .before .before .before .before .before .before .before .before .before .before .before .before .before .before .before .before .before .before .before in
+    let C = codeOf (k .args .words .now) 0 in
+    both-passed C (k .args .allowed) (k .args .yes) (k .args .no) (k .args .total) (k .args .p) (k .args .marks .now) (k .pre .1 .0) (k .pre .1 .2) (c .before .before .before .before .before .before .before .before .before .before .before .before .before .scan-part .ensures) (c .before .before .before .before .before .before .before .before .before .before .before .scan1 .given .1) (c .before .before .before .before .before .before .scan-part2 .ensures) (c .before .before .before .before .scan2 .given .1) (c .before .before .deepest-of .ensures) refl refl
+
+abbrev Inv-loop : scan-part-lts.InvT-loop
+Inv-loop words allowed marks₀ costs₀ depths₀ part total end p₀ t₀ deep₀ marks costs depths p t deep = Standing (codeOf words 0) allowed part total marks₀ marks costs depths p t deep
+
+abbrev μ-loop : scan-part-lts.MeasureT-loop
+μ-loop words allowed marks₀ costs₀ depths₀ part total end p₀ t₀ deep₀ marks costs depths p t deep = end - p
+
+deep-of-requires : (t : ℕ) → scan-part-lts.Need-deep-of-requires (claims t) (scan-part-at t) scan-part.Post Inv-loop μ-loop
+deep-of-requires t c κs = search needs
+
+loop-holds : (t : ℕ) → scan-part-lts.Need-loop-holds (claims t) (scan-part-at t) scan-part.Post Inv-loop μ-loop
+loop-holds t c =
+    let k = c .before .before in
+    standing-first (codeOf (k .args .words .now) 0) (k .args .allowed) (k .args .part) (k .args .total) (k .args .marks .now) (k .pre .1) (k .fits .total .fits) (c .deep-of .ensures)
+
+cast-sum : (t : ℕ) → scan-part-lts.Need-cast-sum (claims t) (scan-part-at t) scan-part.Post Inv-loop μ-loop
+cast-sum t c = let i = c .before .loop .inv .small in search needs
+
+cast-sum-2 : (t : ℕ) → scan-part-lts.Need-cast-sum-2 (claims t) (scan-part-at t) scan-part.Post Inv-loop μ-loop
+cast-sum-2 t c = search needs
+
+add-sum : (t : ℕ) → scan-part-lts.Need-add-sum (claims t) (scan-part-at t) scan-part.Post Inv-loop μ-loop
+add-sum t c = let i = c .before .before .loop .inv .small in search needs
+
+cast-if1 : (t : ℕ) → scan-part-lts.Need-cast-if1 (claims t) (scan-part-at t) scan-part.Post Inv-loop μ-loop
+cast-if1 t c = search needs
+
+stop-requires : (t : ℕ) → scan-part-lts.Need-stop-requires (claims t) (scan-part-at t) scan-part.Post Inv-loop μ-loop
+stop-requires t c κs = search needs
+
+returns : (t : ℕ) → scan-part-lts.Need-returns (claims t) (scan-part-at t) scan-part.Post Inv-loop μ-loop
+returns t c =
+    let k = c .before .before .before .before .before .before .before .before in
+    let q = c .before .before .before .before .before .loop in
+    let C = codeOf (k .args .words .now) 0 in
+    standing-27 C (k .args .allowed) (k .args .part) (k .args .total) (k .args .marks .now) (k .pre .1 .within) (k .pre .1 .few) (q .inv) (c .before .before .before .before .loop-test .taken) (c .before .if1 .taken) (c .stop .ensures)
+
+cast-t : (t : ℕ) → scan-part-lts.Need-cast-t (claims t) (scan-part-at t) scan-part.Post Inv-loop μ-loop
+cast-t t c = search needs
+
+cast-at : (t : ℕ) → scan-part-lts.Need-cast-at (claims t) (scan-part-at t) scan-part.Post Inv-loop μ-loop
+cast-at t c = search needs
+
+element-write-marks : (t : ℕ) → scan-part-lts.Need-element-write-marks (claims t) (scan-part-at t) scan-part.Post Inv-loop μ-loop
+element-write-marks t c =
+    let k = c .before .before .before .before .before .before .before in
+    let q = c .before .before .before .before .loop in
+    let C = codeOf (k .args .words .now) 0 in
+    omega (arith, c .before .before .before .loop-test .taken, k .pre .1 .within, k .pre .1 .few)
+
+mul-control-of : (t : ℕ) → scan-part-lts.Need-mul-control-of (claims t) (scan-part-at t) scan-part.Post Inv-loop μ-loop
+mul-control-of t c =
+    let k = c .before .before .before .before .before .before .before in
+    let q = c .before .before .before .before .loop in
+    let C = codeOf (k .args .words .now) 0 in
+    let i : q .p < 512 = omega (arith, c .before .before .before .loop-test .taken, k .pre .1 .within, k .pre .1 .few) in search needs
+
+shared-slice-read-control-of : (t : ℕ) → scan-part-lts.Need-shared-slice-read-control-of (claims t) (scan-part-at t) scan-part.Post Inv-loop μ-loop
+shared-slice-read-control-of t c =
+    let k = c .before .before .before .before .before .before .before .before in
+    let q = c .before .before .before .before .before .loop in
+    let C = codeOf (k .args .words .now) 0 in
+    omega (arith, c .before .before .before .before .loop-test .taken, k .pre .1 .within)
+
+control-of-requires : (t : ℕ) → scan-part-lts.Need-control-of-requires (claims t) (scan-part-at t) scan-part.Post Inv-loop μ-loop
+control-of-requires t c κs = search needs
+
+mul-goes-on : (t : ℕ) → scan-part-lts.Need-mul-goes-on (claims t) (scan-part-at t) scan-part.Post Inv-loop μ-loop
+mul-goes-on t c =
+    let k = c .before .before .before .before .before .before .before .before .before in
+    let q = c .before .before .before .before .before .before .loop in
+    let C = codeOf (k .args .words .now) 0 in
+    let i : q .p < 512 = omega (arith, c .before .before .before .before .before .loop-test .taken, k .pre .1 .within, k .pre .1 .few) in search needs
+
+element-copy-out-goes-on : (t : ℕ) → scan-part-lts.Need-element-copy-out-goes-on (claims t) (scan-part-at t) scan-part.Post Inv-loop μ-loop
+element-copy-out-goes-on t c =
+    let k = c .before .before .before .before .before .before .before .before .before in
+    let q = c .before .before .before .before .before .before .loop in
+    let C = codeOf (k .args .words .now) 0 in
+    omega (arith, c .before .before .before .before .before .loop-test .taken, k .pre .1 .within, k .pre .1 .few)
+
+goes-on-requires : (t : ℕ) → scan-part-lts.Need-goes-on-requires (claims t) (scan-part-at t) scan-part.Post Inv-loop μ-loop
+goes-on-requires t c κs = search needs
+
+add-p : (t : ℕ) → scan-part-lts.Need-add-p (claims t) (scan-part-at t) scan-part.Post Inv-loop μ-loop
+add-p t c = search needs
+
+loop-less : (t : ℕ) → scan-part-lts.Need-loop-less (claims t) (scan-part-at t) scan-part.Post Inv-loop μ-loop
+loop-less t c = search needs
+
+loop-again : (t : ℕ) → scan-part-lts.Need-loop-again (claims t) (scan-part-at t) scan-part.Post Inv-loop μ-loop
+loop-again t c =
+    let k = c .before .before .before .before .before .before .before .before .before .before .before .before in
+    let q = c .before .before .before .before .before .before .before .before .before .loop in
+    let C = codeOf (k .args .words .now) 0 in
+    standing-known C (k .args .allowed) (k .args .part) (k .args .total) (k .args .marks .now) (k .pre .1 .within) (k .pre .1 .few) (q .inv) (c .before .before .before .before .before .before .before .before .loop-test .taken) (c .before .before .before .before .before .if1 .left) (omega arith) (ap (λ y. goesOn y (getD (q .costs) (q .p) 0) (k .args .part .to .0)) (sym (c .before .before .before .control-of .ensures)) ∙ sym (c .before .goes-on .ensures) ∙ c .if2 .taken)
+
+look-at-requires : (t : ℕ) → scan-part-lts.Need-look-at-requires (claims t) (scan-part-at t) scan-part.Post Inv-loop μ-loop
+look-at-requires t c κs =
+    let k = c .before .before .before .before .before .before .before .before .before .before .before .before in
+    let q = c .before .before .before .before .before .before .before .before .before .loop in
+    let C = codeOf (k .args .words .now) 0 in
+    (k .pre .1 .within, c .before .before .before .before .before .before .before .before .loop-test .taken, omega (arith, k .pre .1 .weighs .0, light (k .args .part .opens .loops) (omega (arith, k .pre .1 .weighs))), k .pre .1 .few)
+
+enum-known-number : (t : ℕ) → scan-part-lts.Need-enum-known-number (claims t) (scan-part-at t) scan-part.Post Inv-loop μ-loop
+enum-known-number t c = search needs
+
+stop-requires-2 : (t : ℕ) → scan-part-lts.Need-stop-requires-2 (claims t) (scan-part-at t) scan-part.Post Inv-loop μ-loop
+stop-requires-2 t c κs = search needs
+
+returns-2 : (t : ℕ) → scan-part-lts.Need-returns-2 (claims t) (scan-part-at t) scan-part.Post Inv-loop μ-loop
+returns-2 t c =
+    let k = c .before .before .before .before .before .before .before .before .before .before .before .before .before .before .before .before .before in
+    let q = c .before .before .before .before .before .before .before .before .before .before .before .before .before .before .loop in
+    let C = codeOf (k .args .words .now) 0 in
+    standing-refuse C (k .args .allowed) (k .args .part) (k .args .total) (k .args .marks .now) (k .pre .1 .within) (k .pre .1 .few) (q .inv) (c .before .before .before .before .before .before .before .before .before .before .before .before .before .loop-test .taken) (c .before .before .before .before .before .before .before .before .before .before .if1 .left) (sym (c .before .before .number .given .1) ∙ c .before .before .before .before .look-at .ensures) (c .stop2 .ensures)
+
+enum-told : (t : ℕ) → scan-part-lts.Need-enum-told (claims t) (scan-part-at t) scan-part.Post Inv-loop μ-loop
+enum-told t c = search needs
+
+mul-costs : (t : ℕ) → scan-part-lts.Need-mul-costs (claims t) (scan-part-at t) scan-part.Post Inv-loop μ-loop
+mul-costs t c =
+    let k = c .before .before .before .before .before .before .before .before .before .before .before .before .before .before .before in
+    let q = c .before .before .before .before .before .before .before .before .before .before .before .before .loop in
+    let C = codeOf (k .args .words .now) 0 in
+    let i : q .p < 512 = omega (arith, c .before .before .before .before .before .before .before .before .before .before .before .loop-test .taken, k .pre .1 .within, k .pre .1 .few) in search needs
+
+element-write-costs : (t : ℕ) → scan-part-lts.Need-element-write-costs (claims t) (scan-part-at t) scan-part.Post Inv-loop μ-loop
+element-write-costs t c =
+    let k = c .before .before .before .before .before .before .before .before .before .before .before .before .before .before .before in
+    let q = c .before .before .before .before .before .before .before .before .before .before .before .before .loop in
+    let C = codeOf (k .args .words .now) 0 in
+    omega (arith, c .before .before .before .before .before .before .before .before .before .before .before .loop-test .taken, k .pre .1 .within, k .pre .1 .few)
+
+add-p-2 : (t : ℕ) → scan-part-lts.Need-add-p-2 (claims t) (scan-part-at t) scan-part.Post Inv-loop μ-loop
+add-p-2 t c = search needs
+
+loop-less-2 : (t : ℕ) → scan-part-lts.Need-loop-less-2 (claims t) (scan-part-at t) scan-part.Post Inv-loop μ-loop
+loop-less-2 t c = search needs
+
+loop-again-2 : (t : ℕ) → scan-part-lts.Need-loop-again-2 (claims t) (scan-part-at t) scan-part.Post Inv-loop μ-loop
+loop-again-2 t c =
+    let k = c .before .before .before .before .before .before .before .before .before .before .before .before .before .before .before in
+    let q = c .before .before .before .before .before .before .before .before .before .before .before .before .loop in
+    let C = codeOf (k .args .words .now) 0 in
+    standing-next C (k .args .allowed) (k .args .part) (k .args .total) (k .args .marks .now) (k .pre .1 .within) (k .pre .1 .few) (q .inv) (c .before .before .before .before .before .before .before .before .before .before .before .loop-test .taken) (c .before .before .before .before .before .before .before .before .if1 .left) (omega arith) (sym (c .enum-told .given .1) ∙ c .before .before .look-at .ensures)
+
+enum-known-inner : (t : ℕ) → scan-part-lts.Need-enum-known-inner (claims t) (scan-part-at t) scan-part.Post Inv-loop μ-loop
+enum-known-inner t c = search needs
+
+enter-requires : (t : ℕ) → scan-part-lts.Need-enter-requires (claims t) (scan-part-at t) scan-part.Post Inv-loop μ-loop
+enter-requires t c κs =
+    let k = c .before .before .before .before .before .before .before .before .before .before .before .before .before .before .before .before .before .before .before in
+    let q = c .before .before .before .before .before .before .before .before .before .before .before .before .before .before .before .before .loop in
+    let C = codeOf (k .args .words .now) 0 in
+    let f = fits-at C (k .args .allowed) (k .args .part .opens) (k .args .part .weight) (q .p) (k .args .part .to .0) (c .before .before .before .before .before .before .before .before .before .before .before .before .before .before .before .loop-test .taken) (k .pre .1 .within) (k .pre .1 .weighs) (k .pre .1 .under) (sym (c .before .before .before .before .inner .given .1) ∙ c .before .before .before .before .before .before .look-at .ensures) in
+    (omega (arith, f .0 .smaller, later C (rulesOf (k .args .allowed)) (k .args .part .opens) (k .args .part .from .0) (q .p) (k .args .part .to .0) (q .inv .from), k .pre .0), (ready-part C (k .args .allowed) (k .args .part) (k .args .total) (k .args .marks .now) (k .pre .1 .within) (k .pre .1 .few) (q .inv) (c .before .before .before .before .before .before .before .before .before .before .before .before .before .before .before .loop-test .taken) (c .before .before .before .before .before .before .before .before .before .before .before .before .if1 .left) _ (f .0 .within) (f .0 .weighs) (f .0 .under) (k .pre .1 .small), asks-one C (k .args .allowed) (k .args .part .opens) (k .args .part .weight) (q .p) (k .args .part .to .0) (sym (c .before .before .before .before .inner .given .1) ∙ c .before .before .before .before .before .before .look-at .ensures), omega (arith, c .before .before .before .before .before .before .before .before .before .before .before .before .before .before .before .loop-test .taken, k .pre .1 .within, k .pre .1 .few)))
+
+enum-known-gone : (t : ℕ) → scan-part-lts.Need-enum-known-gone (claims t) (scan-part-at t) scan-part.Post Inv-loop μ-loop
+enum-known-gone t c = search needs
+
+enum-told-2 : (t : ℕ) → scan-part-lts.Need-enum-told-2 (claims t) (scan-part-at t) scan-part.Post Inv-loop μ-loop
+enum-told-2 t c = search needs
+
+returns-3 : (t : ℕ) → scan-part-lts.Need-returns-3 (claims t) (scan-part-at t) scan-part.Post Inv-loop μ-loop
+returns-3 t c =
+    let k = c .before .before .before .before .before .before .before .before .before .before .before .before .before .before .before .before .before .before .before .before .before .before in
+    let q = c .before .before .before .before .before .before .before .before .before .before .before .before .before .before .before .before .before .before .before .loop in
+    let C = codeOf (k .args .words .now) 0 in
+    one-stopped C (k .args .allowed) (k .args .part) (k .args .total) (k .args .marks .now) (k .pre .1 .within) (k .pre .1 .few) (q .inv) (c .before .before .before .before .before .before .before .before .before .before .before .before .before .before .before .before .before .before .loop-test .taken) (c .before .before .before .before .before .before .before .before .before .before .before .before .before .before .before .if1 .left) (sym (c .before .before .before .before .before .before .before .inner .given .1) ∙ c .before .before .before .before .before .before .before .before .before .look-at .ensures) (c .before .before .enter .ensures) (c .enum-told2 .given .1)
+
+deepest-of-requires : (t : ℕ) → scan-part-lts.Need-deepest-of-requires (claims t) (scan-part-at t) scan-part.Post Inv-loop μ-loop
+deepest-of-requires t c κs = search needs
+
+loop-less-3 : (t : ℕ) → scan-part-lts.Need-loop-less-3 (claims t) (scan-part-at t) scan-part.Post Inv-loop μ-loop
+loop-less-3 t c =
+    let k = c .before .before .before .before .before .before .before .before .before .before .before .before .before .before .before .before .before .before .before .before .before .before .before .before .before in
+    let q = c .before .before .before .before .before .before .before .before .before .before .before .before .before .before .before .before .before .before .before .before .before .before .loop in
+    let C = codeOf (k .args .words .now) 0 in
+    let f = fits-at C (k .args .allowed) (k .args .part .opens) (k .args .part .weight) (q .p) (k .args .part .to .0) (c .before .before .before .before .before .before .before .before .before .before .before .before .before .before .before .before .before .before .before .before .before .loop-test .taken) (k .pre .1 .within) (k .pre .1 .weighs) (k .pre .1 .under) (sym (c .before .before .before .before .before .before .before .before .before .before .inner .given .1) ∙ c .before .before .before .before .before .before .before .before .before .before .before .before .look-at .ensures) in
+    omega (arith, f .1)
+
+loop-again-3 : (t : ℕ) → scan-part-lts.Need-loop-again-3 (claims t) (scan-part-at t) scan-part.Post Inv-loop μ-loop
+loop-again-3 t c =
+    let k = c .before .before .before .before .before .before .before .before .before .before .before .before .before .before .before .before .before .before .before .before .before .before .before .before .before in
+    let q = c .before .before .before .before .before .before .before .before .before .before .before .before .before .before .before .before .before .before .before .before .before .before .loop in
+    let C = codeOf (k .args .words .now) 0 in
+    let f = fits-at C (k .args .allowed) (k .args .part .opens) (k .args .part .weight) (q .p) (k .args .part .to .0) (c .before .before .before .before .before .before .before .before .before .before .before .before .before .before .before .before .before .before .before .before .before .loop-test .taken) (k .pre .1 .within) (k .pre .1 .weighs) (k .pre .1 .under) (sym (c .before .before .before .before .before .before .before .before .before .before .inner .given .1) ∙ c .before .before .before .before .before .before .before .before .before .before .before .before .look-at .ensures) in
+    one-passed C (k .args .allowed) (k .args .part) (k .args .total) (k .args .marks .now) (k .pre .1 .within) (k .pre .1 .few) (q .inv) (c .before .before .before .before .before .before .before .before .before .before .before .before .before .before .before .before .before .before .before .before .before .loop-test .taken) (c .before .before .before .before .before .before .before .before .before .before .before .before .before .before .before .before .before .before .if1 .left) (sym (c .before .before .before .before .before .before .before .before .before .before .inner .given .1) ∙ c .before .before .before .before .before .before .before .before .before .before .before .before .look-at .ensures) (c .before .before .before .before .before .enter .ensures) (omega (arith, f .1)) (omega arith) (c .before .before .before .gone .given .1) (c .deepest-of .ensures)
+
+enum-known-yes : (t : ℕ) → scan-part-lts.Need-enum-known-yes (claims t) (scan-part-at t) scan-part.Post Inv-loop μ-loop
+enum-known-yes t c = search needs
+
+enter-both-requires : (t : ℕ) → scan-part-lts.Need-enter-both-requires (claims t) (scan-part-at t) scan-part.Post Inv-loop μ-loop
+enter-both-requires t c κs =
+    let k = c .before .before .before .before .before .before .before .before .before .before .before .before .before .before .before .before .before .before .before in
+    let q = c .before .before .before .before .before .before .before .before .before .before .before .before .before .before .before .before .loop in
+    let C = codeOf (k .args .words .now) 0 in
+    let f = fits-at C (k .args .allowed) (k .args .part .opens) (k .args .part .weight) (q .p) (k .args .part .to .0) (c .before .before .before .before .before .before .before .before .before .before .before .before .before .before .before .loop-test .taken) (k .pre .1 .within) (k .pre .1 .weighs) (k .pre .1 .under) (sym (c .before .before .before .before .yes .given .1) ∙ c .before .before .before .before .before .before .look-at .ensures) in
+    (omega (arith, max-lt (f .0 .smaller) (f .1 .smaller), later C (rulesOf (k .args .allowed)) (k .args .part .opens) (k .args .part .from .0) (q .p) (k .args .part .to .0) (q .inv .from), k .pre .0), (ready-part C (k .args .allowed) (k .args .part) (k .args .total) (k .args .marks .now) (k .pre .1 .within) (k .pre .1 .few) (q .inv) (c .before .before .before .before .before .before .before .before .before .before .before .before .before .before .before .loop-test .taken) (c .before .before .before .before .before .before .before .before .before .before .before .before .if1 .left) _ (f .0 .within) (f .0 .weighs) (f .0 .under) (k .pre .1 .small), f .1 .within, asks-both C (k .args .allowed) (k .args .part .opens) (k .args .part .weight) (q .p) (k .args .part .to .0) (sym (c .before .before .before .before .yes .given .1) ∙ c .before .before .before .before .before .before .look-at .ensures), omega (arith, c .before .before .before .before .before .before .before .before .before .before .before .before .before .before .before .loop-test .taken, k .pre .1 .within, k .pre .1 .few)))
+
+enum-known-gone-2 : (t : ℕ) → scan-part-lts.Need-enum-known-gone-2 (claims t) (scan-part-at t) scan-part.Post Inv-loop μ-loop
+enum-known-gone-2 t c = search needs
+
+enum-told-3 : (t : ℕ) → scan-part-lts.Need-enum-told-3 (claims t) (scan-part-at t) scan-part.Post Inv-loop μ-loop
+enum-told-3 t c = search needs
+
+returns-4 : (t : ℕ) → scan-part-lts.Need-returns-4 (claims t) (scan-part-at t) scan-part.Post Inv-loop μ-loop
+returns-4 t c =
+    let k = c .before .before .before .before .before .before .before .before .before .before .before .before .before .before .before .before .before .before .before .before .before .before in
+    let q = c .before .before .before .before .before .before .before .before .before .before .before .before .before .before .before .before .before .before .before .loop in
+    let C = codeOf (k .args .words .now) 0 in
+    two-stopped C (k .args .allowed) (k .args .part) (k .args .total) (k .args .marks .now) (k .pre .1 .within) (k .pre .1 .few) (q .inv) (c .before .before .before .before .before .before .before .before .before .before .before .before .before .before .before .before .before .before .loop-test .taken) (c .before .before .before .before .before .before .before .before .before .before .before .before .before .before .before .if1 .left) (sym (c .before .before .before .before .before .before .before .yes .given .1) ∙ c .before .before .before .before .before .before .before .before .before .look-at .ensures) (c .before .before .enter-both .ensures) (c .enum-told3 .given .1)
+
+deepest-of-requires-2 : (t : ℕ) → scan-part-lts.Need-deepest-of-requires-2 (claims t) (scan-part-at t) scan-part.Post Inv-loop μ-loop
+deepest-of-requires-2 t c κs = search needs
+
+loop-less-4 : (t : ℕ) → scan-part-lts.Need-loop-less-4 (claims t) (scan-part-at t) scan-part.Post Inv-loop μ-loop
+loop-less-4 t c =
+    let k = c .before .before .before .before .before .before .before .before .before .before .before .before .before .before .before .before .before .before .before .before .before .before .before .before .before in
+    let q = c .before .before .before .before .before .before .before .before .before .before .before .before .before .before .before .before .before .before .before .before .before .before .loop in
+    let C = codeOf (k .args .words .now) 0 in
+    let f = fits-at C (k .args .allowed) (k .args .part .opens) (k .args .part .weight) (q .p) (k .args .part .to .0) (c .before .before .before .before .before .before .before .before .before .before .before .before .before .before .before .before .before .before .before .before .before .loop-test .taken) (k .pre .1 .within) (k .pre .1 .weighs) (k .pre .1 .under) (sym (c .before .before .before .before .before .before .before .before .before .before .yes .given .1) ∙ c .before .before .before .before .before .before .before .before .before .before .before .before .look-at .ensures) in
+    omega (arith, f .2)
+
+loop-again-4 : (t : ℕ) → scan-part-lts.Need-loop-again-4 (claims t) (scan-part-at t) scan-part.Post Inv-loop μ-loop
+loop-again-4 t c =
+    let k = c .before .before .before .before .before .before .before .before .before .before .before .before .before .before .before .before .before .before .before .before .before .before .before .before .before in
+    let q = c .before .before .before .before .before .before .before .before .before .before .before .before .before .before .before .before .before .before .before .before .before .before .loop in
+    let C = codeOf (k .args .words .now) 0 in
+    let f = fits-at C (k .args .allowed) (k .args .part .opens) (k .args .part .weight) (q .p) (k .args .part .to .0) (c .before .before .before .before .before .before .before .before .before .before .before .before .before .before .before .before .before .before .before .before .before .loop-test .taken) (k .pre .1 .within) (k .pre .1 .weighs) (k .pre .1 .under) (sym (c .before .before .before .before .before .before .before .before .before .before .yes .given .1) ∙ c .before .before .before .before .before .before .before .before .before .before .before .before .look-at .ensures) in
+    two-passed C (k .args .allowed) (k .args .part) (k .args .total) (k .args .marks .now) (k .pre .1 .within) (k .pre .1 .few) (q .inv) (c .before .before .before .before .before .before .before .before .before .before .before .before .before .before .before .before .before .before .before .before .before .loop-test .taken) (c .before .before .before .before .before .before .before .before .before .before .before .before .before .before .before .before .before .before .if1 .left) (sym (c .before .before .before .before .before .before .before .before .before .before .yes .given .1) ∙ c .before .before .before .before .before .before .before .before .before .before .before .before .look-at .ensures) (c .before .before .before .before .before .enter-both .ensures) (omega (arith, f .2)) (omega arith) (c .before .before .before .gone2 .given .1) (c .deepest-of2 .ensures)
+
+returns-5 : (t : ℕ) → scan-part-lts.Need-returns-5 (claims t) (scan-part-at t) scan-part.Post Inv-loop μ-loop
+returns-5 t c =
+    let k = c .before .before .before .before in
+    let q = c .before .loop in
+    let C = codeOf (k .args .words .now) 0 in
+    standing-end C (k .args .allowed) (k .args .part) (k .args .total) (k .args .marks .now) (k .pre .1 .within) (k .pre .1 .few) (q .inv) (c .loop-test .left) refl refl
+
+pub +enter+enter-both+scan-part-spec : {M : Type 1} → statement M
++enter+enter-both+scan-part-spec = close μ-enter μ-enter-both μ-scan-part
+    (λ t. enter-lts.spec (enter-claims t) (enter-at t) enter.Post
+    (enter-mul-cost t)
+    (enter-element-copy-out-cost t)
+    (enter-deep-at-requires t)
+    (enter-fits-again-requires t)
+    (enter-passed-again-requires t)
+    (enter-returns t)
+    (enter-scan-part-requires t)
+    (enter-enum-known-scan t)
+    (enter-enum-told t)
+    (enter-returns-2 t)
+    (enter-beyond-of-requires t)
+    (enter-sub-cost t)
+    (enter-div-cost t)
+    (enter-remember-requires t)
+    (enter-returns-3 t))
+    (λ t. enter-both-lts.spec (both-claims t) (enter-both-at t) enter-both.Post
+    (both-mul-cost t)
+    (both-element-copy-out-cost t)
+    (both-deep-at-requires t)
+    (both-fits-again-requires t)
+    (both-passed-again-requires t)
+    (both-returns t)
+    (both-scan-part-requires t)
+    (both-enum-known-scan1 t)
+    (both-enum-told t)
+    (both-returns-2 t)
+    (both-scan-part-requires-2 t)
+    (both-enum-known-scan2 t)
+    (both-enum-told-2 t)
+    (both-returns-3 t)
+    (both-deepest-of-requires t)
+    (both-sub-cost t)
+    (both-div-cost t)
+    (both-beyond-of-requires t)
+    (both-remember-requires t)
+    (both-returns-4 t)
+    (both-returns-5 t))
+    λ t. scan-part-lts.spec (claims t) (scan-part-at t) scan-part.Post Inv-loop μ-loop
+    (deep-of-requires t)
+    (loop-holds t)
+    (cast-sum t)
+    (cast-sum-2 t)
+    (add-sum t)
+    (cast-if1 t)
+    (stop-requires t)
+    (returns t)
+    (cast-t t)
+    (cast-at t)
+    (element-write-marks t)
+    (mul-control-of t)
+    (shared-slice-read-control-of t)
+    (control-of-requires t)
+    (mul-goes-on t)
+    (element-copy-out-goes-on t)
+    (goes-on-requires t)
+    (add-p t)
+    (loop-less t)
+    (loop-again t)
+    (look-at-requires t)
+    (enum-known-number t)
+    (stop-requires-2 t)
+    (returns-2 t)
+    (enum-told t)
+    (mul-costs t)
+    (element-write-costs t)
+    (add-p-2 t)
+    (loop-less-2 t)
+    (loop-again-2 t)
+    (enum-known-inner t)
+    (enter-requires t)
+    (enum-known-gone t)
+    (enum-told-2 t)
+    (returns-3 t)
+    (deepest-of-requires t)
+    (loop-less-3 t)
+    (loop-again-3 t)
+    (enum-known-yes t)
+    (enter-both-requires t)
+    (enum-known-gone-2 t)
+    (enum-told-3 t)
+    (returns-4 t)
+    (deepest-of-requires-2 t)
+    (loop-less-4 t)
+    (loop-again-4 t)
+    (returns-5 t)

@@ -1,0 +1,74 @@
+-- What a word's fields give, told by a range of opcodes: computed once at each opcode of the range, it holds for every word with an opcode of it. Assumes nothing.
+use mathlib.Core.Path.{_≡_, refl, sym, ap, _∙_}
+use mathlib.Core.Bool.{Bool, true, false, _||_}
+use mathlib.Core.List.{List, [], _∷_}
+use mathlib.Core.Logic.{⊎-elim}
+use Prim.Native.Nat.{ℕ, zero, suc, _+_, _<_, _≤_}
+use native.Mathlib.Omega.{arith}
+use lib.Dec.{T, eqb, eqb→eq}
+use lib.ListN.{getD, drop, replicate}
+use mir.Facts.{or-yes}
+use borrow.Author.Tests.{eqb-true, eqb-false}
+use Rattle.answer.specs.Answers.{Answer}
+use Rattle.bits.specs.Fields.{field}
+use Rattle.bits.proofs.Ranges.{allFrom, from-all}
+use Rattle.instruction.specs.Control.{control, controlOf, ofFormat0, ofFormat2, ofFormat3}
+use Rattle.instruction.specs.Operations.{formatOf}
+use Rattle.instruction.specs.Words.{decodeAs, decodeOf}
+use Rattle.instruction.specs.declared.decoding.Fields.{Fields}
+use Rattle.instruction.specs.declared.operation.Format.{Format}
+use Rattle.instruction.specs.declared.operation.Format.the-variants.{F0, F2, F3}
+
+module _ {A : Type 0} where
+  -- what a function gives at n numbers from lo on
+  abbrev pub tableFrom : (ℕ → A) → ℕ → ℕ → List A
+  tableFrom f lo zero = []
+  tableFrom f lo (suc n) = f lo ∷ tableFrom f (suc lo) n
+
+  -- a table of one value has it at each of its numbers
+  one-value : (f : ℕ → A) (a : A) (lo n : ℕ) → replicate n a ≡ tableFrom f lo n → (k : ℕ) → lo ≤ k → k < lo + n → a ≡ f k
+  one-value f a lo zero e k h l = absurd (omega arith)
+  one-value f a lo (suc n) e k h l = at (eqb k lo) refl (ap (λ (t : List A). getD t 0 a) e) (λ below. one-value f a (suc lo) n (ap (drop 1) e) k below (omega arith))
+    where
+      at : (b : Bool) → eqb k lo ≡ b → a ≡ f lo → (suc lo ≤ k → a ≡ f k) → a ≡ f k
+      at true t here after = here ∙ ap f (sym (eqb-true k lo t))
+      at false t here after = after (omega (arith, eqb-false k lo t))
+
+  -- the formats of a range may differ, as long as what is read of the fields is the same
+  pub by-opcode : (read : Answer Fields → A) (w lo n : ℕ) {a : A} → replicate n a ≡ tableFrom (λ k. read (decodeAs (formatOf k) w)) lo n
+      → {op : ℕ} → op ≡ field 26 6 w → lo ≤ op → op < lo + n → a ≡ read (decodeOf w)
+  unfolding decodeOf
+  by-opcode read w lo n {a} same {op} e h l =
+      let at : ℕ → A = λ k. read (decodeAs (formatOf k) w) in
+      one-value at a lo n same op h l ∙ ap at e
+
+-- the one number of a range that is left when it is none of the others
+abbrev pub NoneOf : List ℕ → ℕ → Type 0
+NoneOf [] k = Unit
+NoneOf (x ∷ xs) k = NoneOf xs k × (k ≡ x → ⊥)
+
+abbrev pub among : List ℕ → ℕ → ℕ → Bool
+among [] last k = eqb k last
+among (x ∷ xs) last k = eqb k x || among xs last k
+
+pub left-over : (xs : List ℕ) (last lo n : ℕ) → T (allFrom (among xs last) lo n) → (k : ℕ) → lo ≤ k → k < lo + n → NoneOf xs k → k ≡ last
+left-over xs last lo n t k h l none = is-last xs (from-all (among xs last) lo n t k h l) none
+  where
+    is-last : (xs : List ℕ) → T (among xs last k) → NoneOf xs k → k ≡ last
+    is-last [] t none = eqb→eq k last t
+    is-last (x ∷ xs) t none = ⊎-elim (λ a. absurd (none .1 (eqb→eq k x a))) (λ b. is-last xs b (none .0)) (or-yes (eqb k x) (among xs last k) t)
+
+-- control flow goes by the opcode beside the format
+module _ (w : ℕ) {op : ℕ} (e : op ≡ field 26 6 w) where
+  pub as-format : (f : Format) → formatOf op ≡ f → control (decodeAs f w) ≡ controlOf w
+  unfolding controlOf decodeOf
+  as-format f t = ap (λ (g : Format). control (decodeAs g w)) (sym t ∙ ap formatOf e)
+
+  pub control-of-0 : formatOf op ≡ F0 → ofFormat0 op ≡ controlOf w
+  control-of-0 t = ap ofFormat0 e ∙ as-format F0 t
+
+  pub control-of-2 : formatOf op ≡ F2 → ofFormat2 op (field 0 8 w) (field 10 12 w) ≡ controlOf w
+  control-of-2 t = ap (λ (k : ℕ). ofFormat2 k (field 0 8 w) (field 10 12 w)) e ∙ as-format F2 t
+
+  pub control-of-3 : formatOf op ≡ F3 → ofFormat3 op (field 0 8 w) (field 10 12 w) (field 22 4 w) ≡ controlOf w
+  control-of-3 t = ap (λ (k : ℕ). ofFormat3 k (field 0 8 w) (field 10 12 w) (field 22 4 w)) e ∙ as-format F3 t
