@@ -28,11 +28,8 @@ use Rattle.flow.specs.declared.scan.Deep.{Deep}
 use Rattle.flow.specs.declared.scan.Scan.{Scan}
 use Rattle.flow.specs.declared.scan.Scan.the-variants.{Go, Stop}
 use Rattle.flow.proofs.Depth.{Passed, fault-none}
-use Rattle.flow.proofs.Tests.{false-not-true}
+use Rattle.flow.proofs.Tests.{apart, false-not-true}
 use Rattle.flow.proofs.Replay.{scan-end, scan-next, scan-one, scan-two, both-go}
-
-apart : {A : Type 0} → _≡_ {A = ℕ} 0 1 → A
-apart z = absurd (omega arith)
 
 -- marks
 pub covers-self : (m : List Bool) → Covers m m

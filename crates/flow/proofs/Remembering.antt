@@ -27,10 +27,7 @@ use Rattle.flow.proofs.Again.{jump-reaches}
 use Rattle.flow.proofs.Depth.{Passed, fault-none}
 use Rattle.flow.proofs.Passing.{covers-self, covers-trans, under-both}
 use Rattle.flow.proofs.Replay.{both-go}
-use Rattle.flow.proofs.Tests.{both, not-bad}
-
-apart : {A : Type 0} → _≡_ {A = ℕ} 0 1 → A
-apart z = absurd (omega arith)
+use Rattle.flow.proofs.Tests.{apart, both, not-bad}
 
 -- what is packed is found again
 unpacked-packed : (d : Deep) → d .ifs < 256 → d .loops < 256 → unpacked (packed d) ≡ d

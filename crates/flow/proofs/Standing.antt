@@ -22,9 +22,7 @@ use Rattle.flow.proofs.Looks.{fits-at}
 use Rattle.flow.proofs.Passing.{covers-self, covers-trans, covers-set, Prefix, prefix-none, prefix-next, prefix-one, prefix-two, prefix-end}
 use Rattle.flow.proofs.Remembering.{memory-grows, memory-more, memory-next, Again, recalled-flow, recalled-left, recalled-both-flow, recalled-both-left, remembered, remembered-both, both-left, cost-is}
 use Rattle.flow.proofs.Replay.{scan-end, scan-27, scan-refuse, scan-next, scan-one-stop, scan-one, scan-two-stop, scan-two, both-stop, both-go}
-
-apart : {A : Type 0} → _≡_ {A = ℕ} 0 1 → A
-apart z = absurd (omega arith)
+use Rattle.flow.proofs.Tests.{apart}
 
 module _ (C : Code) (a : Allowed) (part : Part) (total : ℕ) (m₀ : List Bool) where
   abbrev E : ℕ

@@ -8,6 +8,10 @@ use Rattle.answer.specs.declared.Fault.{Fault}
 use Rattle.answer.specs.declared.Fault.the-variants.{Nothing, At}
 use Rattle.flow.specs.Rules.{pick}
 
+-- two constructors are not equal: `cc` finds the contradiction, and anything follows
+pub apart : {A : Type 0} → _≡_ {A = ℕ} 0 1 → A
+apart z = absurd (omega arith)
+
 pub true-not-false : _≡_ {A = Bool} true false → ⊥
 true-not-false e = let z : _≡_ {A = ℕ} 0 1 = cc in omega arith
 

@@ -4,7 +4,7 @@ ghost use Prim.Native.Nat.{_+_, _*_, _≤_, _<_, max};
 ghost use lib.ListN.{length, set};
 ghost use Rattle.binary.specs.Addresses.{wordAddress};
 ghost use Rattle.flow.specs.Flow.{codeOf};
-ghost use Rattle.flow.specs.Inside.{deepOf, deepest, beyond, Over, opened, Under, Small, Room, Asks, AsksBoth, goesOn, packed, deepAt, fitsAgain, passedAgain, Weighs, scanned, scanOf, Ready, Scans, ScansBoth};
+ghost use Rattle.flow.specs.Inside.{deepOf, deepest, beyond, Over, Under, Small, Room, Asks, AsksBoth, goesOn, packed, deepAt, fitsAgain, passedAgain, Weighs, scanned, scanOf, Ready, Scans, ScansBoth};
 use crate::look::Allowed;
 use crate::look::Look;
 use crate::look::Opens;
@@ -20,7 +20,7 @@ pub enum Scan {
     Stop(u32, WordAddress),
 }
 
-// The most calls, IFs and LOOPs that were open at once.
+// Counts of calls, IFs and LOOPs: the most that were open at once, those open around a region among them; or, where remembered, without those.
 pub struct Deep {
     pub calls: u32,
     pub ifs: u32,
@@ -33,7 +33,7 @@ pub struct Outcome {
     pub deep: Deep,
 }
 
-fn most(a: u32, b: u32) -> u32
+fn larger(a: u32, b: u32) -> u32
     ensures { λ r. ⌜ r ≡ max a b ⌝ }
 {
     if a < b { b } else { a }
@@ -43,9 +43,9 @@ fn deepest_of(a: Deep, b: Deep) -> Deep
     ensures { λ r. ⌜ r ≡ deepest a b ⌝ }
 {
     Deep {
-        calls: most(a.calls, b.calls),
-        ifs: most(a.ifs, b.ifs),
-        loops: most(a.loops, b.loops),
+        calls: larger(a.calls, b.calls),
+        ifs: larger(a.ifs, b.ifs),
+        loops: larger(a.loops, b.loops),
     }
 }
 
@@ -56,17 +56,6 @@ fn deep_of(opens: Opens) -> Deep
         calls: opens.calls,
         ifs: opens.ifs,
         loops: opens.loops,
-    }
-}
-
-fn opened_by(allowed: Allowed, opens: Opens, deep: Deep) -> Deep
-    requires { ⌜ Room allowed opens deep ⌝ }
-    ensures { λ r. ⌜ r ≡ opened opens deep ⌝ }
-{
-    Deep {
-        calls: opens.calls + deep.calls,
-        ifs: opens.ifs + deep.ifs,
-        loops: opens.loops + deep.loops,
     }
 }
 
@@ -133,14 +122,19 @@ fn fits_again(allowed: Allowed, part: Part, total: u32, cost: u32, deep: Deep) -
         & (sum <= allowed.most as u64)
 }
 
-// What a region that fits again leaves.
+// What a region that fits again leaves: its cost in the total, and what it opens added to what is open around it.
 fn passed_again(allowed: Allowed, part: Part, total: u32, cost: u32, deep: Deep) -> Outcome
     requires { ⌜ Room allowed (part .opens) deep × (total + part .weight * cost ≤ allowed .most) ⌝ }
     ensures { λ r. ⌜ r ≡ passedAgain part total cost deep ⌝ }
 {
+    let around = part.opens;
     Outcome {
         scan: Scan::Go(total + part.weight * cost),
-        deep: opened_by(allowed, part.opens, deep),
+        deep: Deep {
+            calls: around.calls + deep.calls,
+            ifs: around.ifs + deep.ifs,
+            loops: around.loops + deep.loops,
+        },
     }
 }
 
@@ -279,8 +273,7 @@ pub(crate) fn scan_part(
                 let Scan::Go(t1) = gone else {
                     return found;
                 };
-                let most1 = found.deep;
-                deep = deepest_of(deep, most1);
+                deep = deepest_of(deep, found.deep);
                 t = t1;
                 p = next.0;
             }
@@ -290,8 +283,7 @@ pub(crate) fn scan_part(
                 let Scan::Go(t1) = gone else {
                     return found;
                 };
-                let most1 = found.deep;
-                deep = deepest_of(deep, most1);
+                deep = deepest_of(deep, found.deep);
                 t = t1;
                 p = next.0;
             }

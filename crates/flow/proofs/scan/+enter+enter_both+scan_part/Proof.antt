@@ -93,7 +93,6 @@ enter-deep-at-requires t c κs = c .before .before .before .pre .1 .2
 enter-fits-again-requires : (t : ℕ) → enter-lts.Need-fits-again-requires (enter-claims t) (enter-at t) enter.Post
 enter-fits-again-requires t c κs =
     let k = c .before .before .before .before in
-    let C = codeOf (k .args .words .now) 0 in
     omega (arith, k .pre .1 .0 .weighs .0, light (k .args .part .opens .loops) (omega (arith, k .pre .1 .0 .weighs)))
 
 enter-passed-again-requires : (t : ℕ) → enter-lts.Need-passed-again-requires (enter-claims t) (enter-at t) enter.Post
@@ -139,7 +138,6 @@ enter-div-cost t c =
 enter-remember-requires : (t : ℕ) → enter-lts.Need-remember-requires (enter-claims t) (enter-at t) enter.Post
 enter-remember-requires t c κs =
     let k = c .before .before .before .before .before .before .before .before .before .before .before .before .before .before .before .before .before in
-    let C = codeOf (k .args .words .now) 0 in
     let l = c .before .before .before .before .before .before .before .scan-part .ensures .left _ (c .before .before .before .before .before .scan .given .1) in
     let s = few-beyond (k .args .allowed) _ (k .args .part .opens) (c .before .before .before .beyond-of .ensures) (k .pre .1 .0 .small) (l .under) in
     (k .pre .1 .2, s .0, s .1, s .2)
@@ -163,7 +161,6 @@ both-deep-at-requires t c κs = c .before .before .before .pre .1 .3
 both-fits-again-requires : (t : ℕ) → enter-both-lts.Need-fits-again-requires (both-claims t) (enter-both-at t) enter-both.Post
 both-fits-again-requires t c κs =
     let k = c .before .before .before .before .before in
-    let C = codeOf (k .args .words .now) 0 in
     omega (arith, k .pre .1 .0 .weighs .0, light (k .args .yes .opens .loops) (omega (arith, k .pre .1 .0 .weighs)))
 
 both-passed-again-requires : (t : ℕ) → enter-both-lts.Need-passed-again-requires (both-claims t) (enter-both-at t) enter-both.Post
@@ -297,22 +294,17 @@ cast-at t c = search needs
 element-write-marks : (t : ℕ) → scan-part-lts.Need-element-write-marks (claims t) (scan-part-at t) scan-part.Post Inv-loop μ-loop
 element-write-marks t c =
     let k = c .before .before .before .before .before .before .before in
-    let q = c .before .before .before .before .loop in
-    let C = codeOf (k .args .words .now) 0 in
     omega (arith, c .before .before .before .loop-test .taken, k .pre .1 .within, k .pre .1 .few)
 
 mul-control-of : (t : ℕ) → scan-part-lts.Need-mul-control-of (claims t) (scan-part-at t) scan-part.Post Inv-loop μ-loop
 mul-control-of t c =
     let k = c .before .before .before .before .before .before .before in
     let q = c .before .before .before .before .loop in
-    let C = codeOf (k .args .words .now) 0 in
     let i : q .p < 512 = omega (arith, c .before .before .before .loop-test .taken, k .pre .1 .within, k .pre .1 .few) in search needs
 
 shared-slice-read-control-of : (t : ℕ) → scan-part-lts.Need-shared-slice-read-control-of (claims t) (scan-part-at t) scan-part.Post Inv-loop μ-loop
 shared-slice-read-control-of t c =
     let k = c .before .before .before .before .before .before .before .before in
-    let q = c .before .before .before .before .before .loop in
-    let C = codeOf (k .args .words .now) 0 in
     omega (arith, c .before .before .before .before .loop-test .taken, k .pre .1 .within)
 
 control-of-requires : (t : ℕ) → scan-part-lts.Need-control-of-requires (claims t) (scan-part-at t) scan-part.Post Inv-loop μ-loop
@@ -322,14 +314,11 @@ mul-goes-on : (t : ℕ) → scan-part-lts.Need-mul-goes-on (claims t) (scan-part
 mul-goes-on t c =
     let k = c .before .before .before .before .before .before .before .before .before in
     let q = c .before .before .before .before .before .before .loop in
-    let C = codeOf (k .args .words .now) 0 in
     let i : q .p < 512 = omega (arith, c .before .before .before .before .before .loop-test .taken, k .pre .1 .within, k .pre .1 .few) in search needs
 
 element-copy-out-goes-on : (t : ℕ) → scan-part-lts.Need-element-copy-out-goes-on (claims t) (scan-part-at t) scan-part.Post Inv-loop μ-loop
 element-copy-out-goes-on t c =
     let k = c .before .before .before .before .before .before .before .before .before in
-    let q = c .before .before .before .before .before .before .loop in
-    let C = codeOf (k .args .words .now) 0 in
     omega (arith, c .before .before .before .before .before .loop-test .taken, k .pre .1 .within, k .pre .1 .few)
 
 goes-on-requires : (t : ℕ) → scan-part-lts.Need-goes-on-requires (claims t) (scan-part-at t) scan-part.Post Inv-loop μ-loop
@@ -351,8 +340,6 @@ loop-again t c =
 look-at-requires : (t : ℕ) → scan-part-lts.Need-look-at-requires (claims t) (scan-part-at t) scan-part.Post Inv-loop μ-loop
 look-at-requires t c κs =
     let k = c .before .before .before .before .before .before .before .before .before .before .before .before in
-    let q = c .before .before .before .before .before .before .before .before .before .loop in
-    let C = codeOf (k .args .words .now) 0 in
     (k .pre .1 .within, c .before .before .before .before .before .before .before .before .loop-test .taken, omega (arith, k .pre .1 .weighs .0, light (k .args .part .opens .loops) (omega (arith, k .pre .1 .weighs))), k .pre .1 .few)
 
 enum-known-number : (t : ℕ) → scan-part-lts.Need-enum-known-number (claims t) (scan-part-at t) scan-part.Post Inv-loop μ-loop
@@ -375,14 +362,11 @@ mul-costs : (t : ℕ) → scan-part-lts.Need-mul-costs (claims t) (scan-part-at 
 mul-costs t c =
     let k = c .before .before .before .before .before .before .before .before .before .before .before .before .before .before .before in
     let q = c .before .before .before .before .before .before .before .before .before .before .before .before .loop in
-    let C = codeOf (k .args .words .now) 0 in
     let i : q .p < 512 = omega (arith, c .before .before .before .before .before .before .before .before .before .before .before .loop-test .taken, k .pre .1 .within, k .pre .1 .few) in search needs
 
 element-write-costs : (t : ℕ) → scan-part-lts.Need-element-write-costs (claims t) (scan-part-at t) scan-part.Post Inv-loop μ-loop
 element-write-costs t c =
     let k = c .before .before .before .before .before .before .before .before .before .before .before .before .before .before .before in
-    let q = c .before .before .before .before .before .before .before .before .before .before .before .before .loop in
-    let C = codeOf (k .args .words .now) 0 in
     omega (arith, c .before .before .before .before .before .before .before .before .before .before .before .loop-test .taken, k .pre .1 .within, k .pre .1 .few)
 
 add-p-2 : (t : ℕ) → scan-part-lts.Need-add-p-2 (claims t) (scan-part-at t) scan-part.Post Inv-loop μ-loop
@@ -427,19 +411,19 @@ deepest-of-requires t c κs = search needs
 
 loop-less-3 : (t : ℕ) → scan-part-lts.Need-loop-less-3 (claims t) (scan-part-at t) scan-part.Post Inv-loop μ-loop
 loop-less-3 t c =
-    let k = c .before .before .before .before .before .before .before .before .before .before .before .before .before .before .before .before .before .before .before .before .before .before .before .before .before in
-    let q = c .before .before .before .before .before .before .before .before .before .before .before .before .before .before .before .before .before .before .before .before .before .before .loop in
+    let k = c .before .before .before .before .before .before .before .before .before .before .before .before .before .before .before .before .before .before .before .before .before .before .before .before in
+    let q = c .before .before .before .before .before .before .before .before .before .before .before .before .before .before .before .before .before .before .before .before .before .loop in
     let C = codeOf (k .args .words .now) 0 in
-    let f = fits-at C (k .args .allowed) (k .args .part .opens) (k .args .part .weight) (q .p) (k .args .part .to .0) (c .before .before .before .before .before .before .before .before .before .before .before .before .before .before .before .before .before .before .before .before .before .loop-test .taken) (k .pre .1 .within) (k .pre .1 .weighs) (k .pre .1 .under) (sym (c .before .before .before .before .before .before .before .before .before .before .inner .given .1) ∙ c .before .before .before .before .before .before .before .before .before .before .before .before .look-at .ensures) in
+    let f = fits-at C (k .args .allowed) (k .args .part .opens) (k .args .part .weight) (q .p) (k .args .part .to .0) (c .before .before .before .before .before .before .before .before .before .before .before .before .before .before .before .before .before .before .before .before .loop-test .taken) (k .pre .1 .within) (k .pre .1 .weighs) (k .pre .1 .under) (sym (c .before .before .before .before .before .before .before .before .before .inner .given .1) ∙ c .before .before .before .before .before .before .before .before .before .before .before .look-at .ensures) in
     omega (arith, f .1)
 
 loop-again-3 : (t : ℕ) → scan-part-lts.Need-loop-again-3 (claims t) (scan-part-at t) scan-part.Post Inv-loop μ-loop
 loop-again-3 t c =
-    let k = c .before .before .before .before .before .before .before .before .before .before .before .before .before .before .before .before .before .before .before .before .before .before .before .before .before in
-    let q = c .before .before .before .before .before .before .before .before .before .before .before .before .before .before .before .before .before .before .before .before .before .before .loop in
+    let k = c .before .before .before .before .before .before .before .before .before .before .before .before .before .before .before .before .before .before .before .before .before .before .before .before in
+    let q = c .before .before .before .before .before .before .before .before .before .before .before .before .before .before .before .before .before .before .before .before .before .loop in
     let C = codeOf (k .args .words .now) 0 in
-    let f = fits-at C (k .args .allowed) (k .args .part .opens) (k .args .part .weight) (q .p) (k .args .part .to .0) (c .before .before .before .before .before .before .before .before .before .before .before .before .before .before .before .before .before .before .before .before .before .loop-test .taken) (k .pre .1 .within) (k .pre .1 .weighs) (k .pre .1 .under) (sym (c .before .before .before .before .before .before .before .before .before .before .inner .given .1) ∙ c .before .before .before .before .before .before .before .before .before .before .before .before .look-at .ensures) in
-    one-passed C (k .args .allowed) (k .args .part) (k .args .total) (k .args .marks .now) (k .pre .1 .within) (k .pre .1 .few) (q .inv) (c .before .before .before .before .before .before .before .before .before .before .before .before .before .before .before .before .before .before .before .before .before .loop-test .taken) (c .before .before .before .before .before .before .before .before .before .before .before .before .before .before .before .before .before .before .if1 .left) (sym (c .before .before .before .before .before .before .before .before .before .before .inner .given .1) ∙ c .before .before .before .before .before .before .before .before .before .before .before .before .look-at .ensures) (c .before .before .before .before .before .enter .ensures) (omega (arith, f .1)) (omega arith) (c .before .before .before .gone .given .1) (c .deepest-of .ensures)
+    let f = fits-at C (k .args .allowed) (k .args .part .opens) (k .args .part .weight) (q .p) (k .args .part .to .0) (c .before .before .before .before .before .before .before .before .before .before .before .before .before .before .before .before .before .before .before .before .loop-test .taken) (k .pre .1 .within) (k .pre .1 .weighs) (k .pre .1 .under) (sym (c .before .before .before .before .before .before .before .before .before .inner .given .1) ∙ c .before .before .before .before .before .before .before .before .before .before .before .look-at .ensures) in
+    one-passed C (k .args .allowed) (k .args .part) (k .args .total) (k .args .marks .now) (k .pre .1 .within) (k .pre .1 .few) (q .inv) (c .before .before .before .before .before .before .before .before .before .before .before .before .before .before .before .before .before .before .before .before .loop-test .taken) (c .before .before .before .before .before .before .before .before .before .before .before .before .before .before .before .before .before .if1 .left) (sym (c .before .before .before .before .before .before .before .before .before .inner .given .1) ∙ c .before .before .before .before .before .before .before .before .before .before .before .look-at .ensures) (c .before .before .before .before .enter .ensures) (omega (arith, f .1)) (omega arith) (c .before .before .gone .given .1) (c .deepest-of .ensures)
 
 enum-known-yes : (t : ℕ) → scan-part-lts.Need-enum-known-yes (claims t) (scan-part-at t) scan-part.Post Inv-loop μ-loop
 enum-known-yes t c = search needs
@@ -470,19 +454,19 @@ deepest-of-requires-2 t c κs = search needs
 
 loop-less-4 : (t : ℕ) → scan-part-lts.Need-loop-less-4 (claims t) (scan-part-at t) scan-part.Post Inv-loop μ-loop
 loop-less-4 t c =
-    let k = c .before .before .before .before .before .before .before .before .before .before .before .before .before .before .before .before .before .before .before .before .before .before .before .before .before in
-    let q = c .before .before .before .before .before .before .before .before .before .before .before .before .before .before .before .before .before .before .before .before .before .before .loop in
+    let k = c .before .before .before .before .before .before .before .before .before .before .before .before .before .before .before .before .before .before .before .before .before .before .before .before in
+    let q = c .before .before .before .before .before .before .before .before .before .before .before .before .before .before .before .before .before .before .before .before .before .loop in
     let C = codeOf (k .args .words .now) 0 in
-    let f = fits-at C (k .args .allowed) (k .args .part .opens) (k .args .part .weight) (q .p) (k .args .part .to .0) (c .before .before .before .before .before .before .before .before .before .before .before .before .before .before .before .before .before .before .before .before .before .loop-test .taken) (k .pre .1 .within) (k .pre .1 .weighs) (k .pre .1 .under) (sym (c .before .before .before .before .before .before .before .before .before .before .yes .given .1) ∙ c .before .before .before .before .before .before .before .before .before .before .before .before .look-at .ensures) in
+    let f = fits-at C (k .args .allowed) (k .args .part .opens) (k .args .part .weight) (q .p) (k .args .part .to .0) (c .before .before .before .before .before .before .before .before .before .before .before .before .before .before .before .before .before .before .before .before .loop-test .taken) (k .pre .1 .within) (k .pre .1 .weighs) (k .pre .1 .under) (sym (c .before .before .before .before .before .before .before .before .before .yes .given .1) ∙ c .before .before .before .before .before .before .before .before .before .before .before .look-at .ensures) in
     omega (arith, f .2)
 
 loop-again-4 : (t : ℕ) → scan-part-lts.Need-loop-again-4 (claims t) (scan-part-at t) scan-part.Post Inv-loop μ-loop
 loop-again-4 t c =
-    let k = c .before .before .before .before .before .before .before .before .before .before .before .before .before .before .before .before .before .before .before .before .before .before .before .before .before in
-    let q = c .before .before .before .before .before .before .before .before .before .before .before .before .before .before .before .before .before .before .before .before .before .before .loop in
+    let k = c .before .before .before .before .before .before .before .before .before .before .before .before .before .before .before .before .before .before .before .before .before .before .before .before in
+    let q = c .before .before .before .before .before .before .before .before .before .before .before .before .before .before .before .before .before .before .before .before .before .loop in
     let C = codeOf (k .args .words .now) 0 in
-    let f = fits-at C (k .args .allowed) (k .args .part .opens) (k .args .part .weight) (q .p) (k .args .part .to .0) (c .before .before .before .before .before .before .before .before .before .before .before .before .before .before .before .before .before .before .before .before .before .loop-test .taken) (k .pre .1 .within) (k .pre .1 .weighs) (k .pre .1 .under) (sym (c .before .before .before .before .before .before .before .before .before .before .yes .given .1) ∙ c .before .before .before .before .before .before .before .before .before .before .before .before .look-at .ensures) in
-    two-passed C (k .args .allowed) (k .args .part) (k .args .total) (k .args .marks .now) (k .pre .1 .within) (k .pre .1 .few) (q .inv) (c .before .before .before .before .before .before .before .before .before .before .before .before .before .before .before .before .before .before .before .before .before .loop-test .taken) (c .before .before .before .before .before .before .before .before .before .before .before .before .before .before .before .before .before .before .if1 .left) (sym (c .before .before .before .before .before .before .before .before .before .before .yes .given .1) ∙ c .before .before .before .before .before .before .before .before .before .before .before .before .look-at .ensures) (c .before .before .before .before .before .enter-both .ensures) (omega (arith, f .2)) (omega arith) (c .before .before .before .gone2 .given .1) (c .deepest-of2 .ensures)
+    let f = fits-at C (k .args .allowed) (k .args .part .opens) (k .args .part .weight) (q .p) (k .args .part .to .0) (c .before .before .before .before .before .before .before .before .before .before .before .before .before .before .before .before .before .before .before .before .loop-test .taken) (k .pre .1 .within) (k .pre .1 .weighs) (k .pre .1 .under) (sym (c .before .before .before .before .before .before .before .before .before .yes .given .1) ∙ c .before .before .before .before .before .before .before .before .before .before .before .look-at .ensures) in
+    two-passed C (k .args .allowed) (k .args .part) (k .args .total) (k .args .marks .now) (k .pre .1 .within) (k .pre .1 .few) (q .inv) (c .before .before .before .before .before .before .before .before .before .before .before .before .before .before .before .before .before .before .before .before .loop-test .taken) (c .before .before .before .before .before .before .before .before .before .before .before .before .before .before .before .before .before .if1 .left) (sym (c .before .before .before .before .before .before .before .before .before .yes .given .1) ∙ c .before .before .before .before .before .before .before .before .before .before .before .look-at .ensures) (c .before .before .before .before .enter-both .ensures) (omega (arith, f .2)) (omega arith) (c .before .before .gone2 .given .1) (c .deepest-of2 .ensures)
 
 returns-5 : (t : ℕ) → scan-part-lts.Need-returns-5 (claims t) (scan-part-at t) scan-part.Post Inv-loop μ-loop
 returns-5 t c =
