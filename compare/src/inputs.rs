@@ -39,6 +39,8 @@ pub fn all() -> Vec<Input> {
         ("calls over jumps to the next word", calls_over(jumps_on())),
         ("calls over jumps to the last word", calls_over(jumps_far())),
         ("257 calls of nested IFs", nested_in_calls()),
+        ("257 calls of 253 calls", calls_in_calls()),
+        ("511 jumps to the last word", only_jumps()),
     ];
     let tables = [
         ("3,200 constants", vectors(3_200)),
@@ -142,7 +144,7 @@ fn jumps_far() -> Vec<u32> {
     words
 }
 
-/// 257 calls of one region of 28 groups of 8 IFs inside one another: what a check that remembers called regions by the word that calls them takes longest for.
+/// 257 calls of one region of 28 groups of 8 IFs inside one another: a check that remembers called regions, but not IFs, takes longest for it.
 fn nested_in_calls() -> Content {
     let mut words = vec![aimed(CALL, 257, 255); 257];
     for _ in 0..28 {
@@ -151,6 +153,21 @@ fn nested_in_calls() -> Content {
         words.push(NOP);
     }
     words.extend([NOP; 2]);
+    words.push(END);
+    main_only(words)
+}
+
+/// 257 calls of one region of 253 calls of a NOP: what a check that remembers a called region by the word that calls it takes longest for.
+fn calls_in_calls() -> Content {
+    let mut words = vec![aimed(CALL, 257, 255); 257];
+    words.extend([aimed(CALL, 510, 1); 253]);
+    words.extend([NOP, END]);
+    main_only(words)
+}
+
+/// 511 jumps, not taken, each to the last word: a search for each.
+fn only_jumps() -> Content {
+    let mut words = vec![aimed(JMPU, 511, 0); 511];
     words.push(END);
     main_only(words)
 }

@@ -10,7 +10,7 @@ use Rattle.answer.specs.declared.Fault.{Fault}
 use Rattle.answer.specs.declared.Fault.the-variants.{Nothing, At}
 use Rattle.instruction.specs.declared.flow_control.Control.{Control}
 use Rattle.instruction.specs.declared.flow_control.Control.the-variants.{Unknown, Plain, Emit, End, Break, If, Loop, Call, Jump}
-use Rattle.flow.specs.Inside.{rulesOf, unless, partOf, partsOf, lookOf, Weighs, Under, deepOf}
+use Rattle.flow.specs.Inside.{rulesOf, unless, partOf, partsOf, lookOf, Weighs, Under, afterPart, deepOf}
 use Rattle.flow.specs.Rules.{Code, Rules, inIf, inLoop, inCall}
 use Rattle.flow.specs.Visits.{faultAt, size}
 use Rattle.flow.specs.declared.look.Allowed.{Allowed}
@@ -53,7 +53,7 @@ module _ (C : Code) (a : Allowed) (x : Opens) (w p E : ℕ) where
   AllFit (Refuse n) = Unit {0}
   AllFit Next = Unit {0}
   AllFit (One r next) = Fits r × Onward (next .0)
-  AllFit (Two r s next) = Fits r × Fits s × Onward (next .0)
+  AllFit (Two r next) = Fits r × Fits (afterPart r next) × Onward (next .0)
 
   module _ (l : p < E) (h : E ≤ C .words) (g : Weighs a (partOf x w p E)) (y : Under a (deepOf x)) where
     parts-fit : (i : Control) → Passed C R i x p E → AllFit (partsOf i x w p)

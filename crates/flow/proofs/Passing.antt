@@ -16,7 +16,7 @@ use Rattle.binary.specs.Addresses.{wordAddress}
 use Rattle.binary.specs.declared.WordAddress.{WordAddress}
 use Rattle.instruction.specs.declared.flow_control.Control.{Control}
 use Rattle.instruction.specs.declared.flow_control.Control.the-variants.{Unknown, Plain, Emit, End, Break, If, Loop, Call, Jump}
-use Rattle.flow.specs.Inside.{rulesOf, unless, partOf, partsOf, lookOf, scanned, scanOf, beyond, Over, Under, Room, Covers, Passes, PassesBoth, Left, LeftBoth, scanBoth, deepest, deepOf}
+use Rattle.flow.specs.Inside.{rulesOf, unless, partOf, partsOf, lookOf, scanned, scanOf, beyond, Over, Under, Room, Covers, Passes, PassesBoth, Left, LeftBoth, afterPart, scanBoth, deepest, deepOf}
 use Rattle.flow.specs.Rules.{Code, Rules, inIf, inLoop, inCall, pick}
 use Rattle.flow.specs.Visits.{faultAt}
 use Rattle.flow.specs.declared.look.Allowed.{Allowed}
@@ -113,13 +113,10 @@ record OneAsked (C : Code) (a : Allowed) (x x′ : Opens) (w w′ p E : ℕ) (r 
   shift : Shift (turnsOf r) x x′ w w′ r part
   asks : One part next ≡ lookOf C (rulesOf a) x′ w′ p E
 
--- an IF's second part follows its first, with the same open
-record TwoAsked (C : Code) (a : Allowed) (x x′ : Opens) (w w′ p E : ℕ) (r s : Part) (next : WordAddress) : Type 0 where
+record TwoAsked (C : Code) (a : Allowed) (x x′ : Opens) (w w′ p E : ℕ) (r : Part) (next : WordAddress) : Type 0 where
   first : Part
-  second : Part
   shift : Shift 1 x x′ w w′ r first
-  follows : second ≡ partOf (first .opens) (first .weight) (r .to .0) (s .to .0)
-  asks : Two first second next ≡ lookOf C (rulesOf a) x′ w′ p E
+  asks : Two first next ≡ lookOf C (rulesOf a) x′ w′ p E
 
 module _ (C : Code) (a : Allowed) (x x′ : Opens) (w w′ p E : ℕ) (same-loop : x′ .looped ≡ x .looped) (d : Deep) (room : Room a x′ (beyond d x)) where
   look-one : {r : Part} {next : WordAddress} → Over d (r .opens) → One r next ≡ lookOf C (rulesOf a) x w p E → OneAsked C a x x′ w w′ p E r next
@@ -157,11 +154,11 @@ module _ (C : Code) (a : Allowed) (x x′ : Opens) (w w′ p E : ℕ) (same-loop
       by (At n q) f g = apart (cc)
       by Nothing f g = on (C .control p) refl (fault-none C (rulesOf a) x p E f) g
 
-  look-two : {r s : Part} {next : WordAddress} → Over d (r .opens) → Two r s next ≡ lookOf C (rulesOf a) x w p E → TwoAsked C a x x′ w w′ p E r s next
+  look-two : {r : Part} {next : WordAddress} → Over d (r .opens) → Two r next ≡ lookOf C (rulesOf a) x w p E → TwoAsked C a x x′ w w′ p E r next
   unfolding lookOf faultAt
-  look-two {r} {s} {next} over e = by (faultAt C (rulesOf a) x p E) refl e
+  look-two {r} {next} over e = by (faultAt C (rulesOf a) x p E) refl e
     where
-      on : (i : Control) → C .control p ≡ i → Passed C (rulesOf a) i x p E → Two r s next ≡ partsOf i x w p → TwoAsked C a x x′ w w′ p E r s next
+      on : (i : Control) → C .control p ≡ i → Passed C (rulesOf a) i x p E → Two r next ≡ partsOf i x w p → TwoAsked C a x x′ w w′ p E r next
       on Unknown z o g = apart (cc)
       on Plain z o g = apart (cc)
       on Emit z o g = apart (cc)
@@ -169,21 +166,18 @@ module _ (C : Code) (a : Allowed) (x x′ : Opens) (w w′ p E : ℕ) (same-loop
       on (Break c) z o g = apart (cc)
       on (If c dst num) z o g =
           let same : r ≡ partOf (inIf x) w (p + 1) (dst .0) = cc in
-          let same′ : s ≡ partOf (inIf x) w (dst .0) (dst .0 + num) = cc in
           let n : next ≡ wordAddress (dst .0 + num) = cc in
           let deep : Over d (inIf x) = rw same at over in
           record {
             first = partOf (inIf x′) w′ (p + 1) (dst .0);
-            second = partOf (inIf x′) w′ (dst .0) (dst .0 + num);
             shift = rw same (record { weight = omega arith; from = refl; to = refl; looped = same-loop; calls = (omega arith, omega arith); ifs = (omega arith, omega arith); loops = (omega arith, omega arith) });
-            follows = rw (same, same′);
             asks = rw (z, n, o .bounds, lt-leb (a .ifs) (x′ .ifs) (omega (arith, deep, room)));
           }
       on (Loop q dst) z o g = apart (cc)
       on (Call c dst num) z o g = apart (cc)
       on (Jump c dst num) z o g = apart (cc)
 
-      by : (f : Fault) → faultAt C (rulesOf a) x p E ≡ f → Two r s next ≡ unless f (partsOf (C .control p) x w p) → TwoAsked C a x x′ w w′ p E r s next
+      by : (f : Fault) → faultAt C (rulesOf a) x p E ≡ f → Two r next ≡ unless f (partsOf (C .control p) x w p) → TwoAsked C a x x′ w w′ p E r next
       by (At n q) f g = apart (cc)
       by Nothing f g = on (C .control p) refl (fault-none C (rulesOf a) x p E f) g
 
@@ -208,11 +202,11 @@ module _ (C : Code) (a : Allowed) (x : Opens) (w p E : ℕ) where
       by (At n q) g = apart (cc)
       by Nothing g = on (C .control p) g
 
-  two-weight : {r s : Part} {next : WordAddress} → Two r s next ≡ lookOf C (rulesOf a) x w p E → r .weight ≡ w
+  two-weight : {r : Part} {next : WordAddress} → Two r next ≡ lookOf C (rulesOf a) x w p E → r .weight ≡ w
   unfolding lookOf
-  two-weight {r} {s} {next} e = by (faultAt C (rulesOf a) x p E) e
+  two-weight {r} {next} e = by (faultAt C (rulesOf a) x p E) e
     where
-      on : (i : Control) → Two r s next ≡ partsOf i x w p → r .weight ≡ w
+      on : (i : Control) → Two r next ≡ partsOf i x w p → r .weight ≡ w
       on Unknown g = apart (cc)
       on Plain g = apart (cc)
       on Emit g = apart (cc)
@@ -223,7 +217,7 @@ module _ (C : Code) (a : Allowed) (x : Opens) (w p E : ℕ) where
       on (Call c dst num) g = apart (cc)
       on (Jump c dst num) g = apart (cc)
 
-      by : (f : Fault) → Two r s next ≡ unless f (partsOf (C .control p) x w p) → r .weight ≡ w
+      by : (f : Fault) → Two r next ≡ unless f (partsOf (C .control p) x w p) → r .weight ≡ w
       by (At n q) g = apart (cc)
       by Nothing g = on (C .control p) g
 
@@ -325,9 +319,9 @@ module _ (C : Code) (a : Allowed) (part : Part) (before : ℕ) where
                 rw sum (step ∙ f .again x w u m′ same (less-room x d deep (deep-left d d₁) room) (omega (arith, sum)) (covers-trans (covers-set m p) (covers-trans grown c)));
           }
 
-      pub prefix-two : {r s : Part} {next : WordAddress} {t₁ : ℕ} {d₁ : Deep} {m₁ : List Bool} → Two r s next ≡ lookOf C (rulesOf a) X W p Z → LeftBoth C a r s (t + W) t₁ d₁ m₁ → Covers (set m p true) m₁
+      pub prefix-two : {r : Part} {next : WordAddress} {t₁ : ℕ} {d₁ : Deep} {m₁ : List Bool} → Two r next ≡ lookOf C (rulesOf a) X W p Z → LeftBoth C a r next (t + W) t₁ d₁ m₁ → Covers (set m p true) m₁
           → Prefix (next .0) t₁ (deepest d d₁) m₁
-      prefix-two {r} {s} {next} {t₁} {d₁} {m₁} e g grown =
+      prefix-two {r} {next} {t₁} {d₁} {m₁} e g grown =
           let deep = deepest d d₁ in
           let q = g .passes in
           record {
@@ -343,8 +337,8 @@ module _ (C : Code) (a : Allowed) (part : Part) (before : ℕ) where
                 let weigh′ : w₁ * q .second ≡ w * q .second = ap (λ y. y * q .second) (o .shift .weight) ∙ omega arith in
                 let sum : u + w * (f .cost + 1 + g .cost) ≡ v + w + w₁ * q .first + w₁ * q .second = omega (arith, weigh, weigh′, ap (λ y. w * y) (q .sum)) in
                 let there : scanned (Go (v + w + w₁ * q .first)) m′ ≡ scanOf C a (o .first) (v + w) m′ = rw (o .shift .from, o .shift .to) (passed-there d₁ deep (v + w) m′ (o .shift) (g .over) (q .before) (deep-right d d₁) room (omega (arith, sum)) c) in
-                let there′ : scanned (Go (v + w + w₁ * q .first + w₁ * q .second)) m′ ≡ scanOf C a (o .second) (v + w + w₁ * q .first) m′ = rw (o .follows) (passed-there d₁ deep (v + w + w₁ * q .first) m′ (o .shift) (g .over) (q .after) (deep-right d d₁) room (omega (arith, sum)) c) in
-                let marks = ap (λ y. scanBoth C a (o .first) (o .second) (v + w) y) (sym (marked m m′ p n (covers-trans grown c))) in
-                let step = scan-two C a (partOf x w p Z) p v m′ h l (omega (arith, sum)) (o .asks) (both-go C a (o .first) (o .second) (v + w) m′ there refl there′ ∙ marks) refl in
+                let there′ : scanned (Go (v + w + w₁ * q .first + w₁ * q .second)) m′ ≡ scanOf C a (afterPart (o .first) next) (v + w + w₁ * q .first) m′ = rw (o .shift .to) (passed-there d₁ deep (v + w + w₁ * q .first) m′ (o .shift) (g .over) (q .after) (deep-right d d₁) room (omega (arith, sum)) c) in
+                let marks = ap (λ y. scanBoth C a (o .first) next (v + w) y) (sym (marked m m′ p n (covers-trans grown c))) in
+                let step = scan-two C a (partOf x w p Z) p v m′ h l (omega (arith, sum)) (o .asks) (both-go C a (o .first) next (v + w) m′ there refl there′ ∙ marks) refl in
                 rw sum (step ∙ f .again x w u m′ same (less-room x d deep (deep-left d d₁) room) (omega (arith, sum)) (covers-trans (covers-set m p) (covers-trans grown c)));
           }

@@ -11,10 +11,11 @@ use lib.Seq.{getD-set-same, getD-set-other}
 use borrow.Author.Tests.{leb-true, ltb-true, eqb-true, eqb-false}
 use Rattle.answer.specs.declared.Fault.{Fault}
 use Rattle.answer.specs.declared.Fault.the-variants.{Nothing, At}
+use Rattle.binary.specs.Addresses.{wordAddress}
 use Rattle.binary.specs.declared.WordAddress.{WordAddress}
 use Rattle.instruction.specs.declared.flow_control.Control.{Control}
 use Rattle.instruction.specs.declared.flow_control.Control.the-variants.{Unknown, Plain, Emit, End, Break, If, Loop, Call, Jump}
-use Rattle.flow.specs.Inside.{rulesOf, unless, partOf, partsOf, lookOf, scanned, scanOf, beyond, Over, Room, Covers, Passes, PassesBoth, Left, LeftBoth, scanBoth, deepest, opened, Asks, AsksBoth, Recalled, packed, unpacked, deepAt, Memory, fitsAgain}
+use Rattle.flow.specs.Inside.{rulesOf, unless, partOf, partsOf, lookOf, scanned, scanOf, beyond, Over, Room, Covers, Passes, PassesBoth, Left, LeftBoth, afterPart, scanBoth, deepest, opened, Asks, AsksBoth, Recalled, packed, unpacked, deepAt, Memory, fitsAgain}
 use Rattle.flow.specs.Rules.{Code, inIf, inLoop, inCall}
 use Rattle.flow.specs.Visits.{faultAt}
 use Rattle.flow.specs.declared.look.Allowed.{Allowed}
@@ -59,11 +60,11 @@ module _ (C : Code) (a : Allowed) where
       by Nothing g = on (C .control p) g
 
   -- the parts that an IF asks for
-  pub asks-both : (x : Opens) (w p E : ℕ) {r r′ : Part} {next : WordAddress} → Two r r′ next ≡ lookOf C (rulesOf a) x w p E → AsksBoth (C .control p) p r r′
+  pub asks-both : (x : Opens) (w p E : ℕ) {r : Part} {next : WordAddress} → Two r next ≡ lookOf C (rulesOf a) x w p E → AsksBoth (C .control p) p r next
   unfolding lookOf
-  asks-both x w p E {r} {r′} {next} e = by (faultAt C (rulesOf a) x p E) e
+  asks-both x w p E {r} {next} e = by (faultAt C (rulesOf a) x p E) e
     where
-      on : (i : Control) → Two r r′ next ≡ partsOf i x w p → AsksBoth i p r r′
+      on : (i : Control) → Two r next ≡ partsOf i x w p → AsksBoth i p r next
       on Unknown g = apart (cc)
       on Plain g = apart (cc)
       on Emit g = apart (cc)
@@ -71,13 +72,13 @@ module _ (C : Code) (a : Allowed) where
       on (Break c) g = apart (cc)
       on (If c dst num) g =
           let same : r ≡ partOf (inIf x) w (p + 1) (dst .0) = cc in
-          let same′ : r′ ≡ partOf (inIf x) w (dst .0) (dst .0 + num) = cc in
-          rw (same, same′) (record { condition = c; dst = dst; num = num; is = refl; from = refl; to = refl; second = refl })
+          let n : next ≡ wordAddress (dst .0 + num) = cc in
+          rw (same, n) (record { condition = c; dst = dst; num = num; is = refl; from = refl; to = refl; end = refl })
       on (Loop q dst) g = apart (cc)
       on (Call c dst num) g = apart (cc)
       on (Jump c dst num) g = apart (cc)
 
-      by : (f : Fault) → Two r r′ next ≡ unless f (partsOf (C .control p) x w p) → AsksBoth (C .control p) p r r′
+      by : (f : Fault) → Two r next ≡ unless f (partsOf (C .control p) x w p) → AsksBoth (C .control p) p r next
       by (At n q) g = apart (cc)
       by Nothing g = on (C .control p) g
 
@@ -124,17 +125,13 @@ module _ (C : Code) (a : Allowed) where
   passes-recalled (Call c dst num) p r k d m h q = rw (h .0, h .1, h .2) at q
   passes-recalled (Jump c dst num) p r k d m h q = absurd h
 
-  -- an IF's second part follows its first
-  module _ {i : Control} {p : ℕ} {r r′ : Part} (h : AsksBoth i p r r′) where
-    follows : r′ ≡ partOf (r .opens) (r .weight) (r .to .0) (r′ .to .0)
-    follows = rw (h .second, h .to)
+  -- outside a LOOP, what is remembered of an IF is that both are passed
+  module _ {i : Control} {p : ℕ} {r : Part} {next : WordAddress} (h : AsksBoth i p r next) (k : ℕ) (d : Deep) (m : List Bool) where
+    recalled-both : Recalled C a m i p k d → PassesBoth C a false (r .from .0) (r .to .0) (next .0) k d m
+    recalled-both q = rw (h .end, h .to, h .from) (rw (h .is) at q)
 
-    -- outside a LOOP, what is remembered of an IF is that both are passed
-    recalled-both : (k : ℕ) (d : Deep) (m : List Bool) → Recalled C a m i p k d → PassesBoth C a false (r .from .0) (r .to .0) (r′ .to .0) k d m
-    recalled-both k d m q = rw (h .second, h .to, h .from) (rw (h .is) at q)
-
-    both-recalled : (k : ℕ) (d : Deep) (m : List Bool) → PassesBoth C a false (r .from .0) (r .to .0) (r′ .to .0) k d m → Recalled C a m i p k d
-    both-recalled k d m q = rw (h .is) (rw (h .second, h .to, h .from) at q)
+    both-recalled : PassesBoth C a false (r .from .0) (r .to .0) (next .0) k d m → Recalled C a m i p k d
+    both-recalled q = rw (h .is) (rw (h .end, h .to, h .from) at q)
 
   -- more marks
   passes-grow : {b : Bool} {p E k : ℕ} {d : Deep} {m m′ : List Bool} → Covers m m′ → Passes C a b p E k d m → Passes C a b p E k d m′
@@ -243,20 +240,20 @@ module _ (C : Code) (a : Allowed) where
           }
 
     -- .. and two, of an IF
-    module _ (i : Control) (p : ℕ) (r′ : Part) (h : AsksBoth i p r r′) (b : r .opens .looped ≡ false) (q : Recalled C a m i p k d) (g : Again) where
-      passed : PassesBoth C a (r .opens .looped) (r .from .0) (r .to .0) (r′ .to .0) k d m
+    module _ (i : Control) (p : ℕ) (next : WordAddress) (h : AsksBoth i p r next) (b : r .opens .looped ≡ false) (q : Recalled C a m i p k d) (g : Again) where
+      passed : PassesBoth C a (r .opens .looped) (r .from .0) (r .to .0) (next .0) k d m
       passed = rw b (recalled-both h k d m q)
 
       sums : t + r .weight * passed .first + r .weight * passed .second ≡ t + r .weight * k
       sums = omega (arith, ap (λ y. r .weight * y) (passed .sum))
 
-      pub recalled-both-flow : scanned (Go (t + r .weight * k)) m ≡ scanBoth C a r r′ t m
+      pub recalled-both-flow : scanned (Go (t + r .weight * k)) m ≡ scanBoth C a r next t m
       recalled-both-flow =
           let first = passed .before .again (r .opens) (r .weight) t m refl (g .room) (omega (arith, g .fits, sums)) (covers-self m) in
           let second = passed .after .again (r .opens) (r .weight) (t + r .weight * passed .first) m refl (g .room) (omega (arith, g .fits, sums)) (covers-self m) in
-          rw (← sums) (both-go C a r r′ t m (sym first) refl (sym second ∙ ap (λ y. scanOf C a y (t + r .weight * passed .first) m) (sym (follows h))))
+          rw (← sums) (both-go C a r next t m (sym first) refl (sym second))
 
-      pub recalled-both-left : LeftBoth C a r r′ t (t + r .weight * k) (opened (r .opens) d) m
+      pub recalled-both-left : LeftBoth C a r next t (t + r .weight * k) (opened (r .opens) d) m
       recalled-both-left =
           record {
             cost = k;
@@ -285,17 +282,15 @@ module _ (C : Code) (a : Allowed) where
   deeper-passes : {b : Bool} {p E k : ℕ} {m : List Bool} (y : Opens) (d e : Deep) → (d .calls ≤ e .calls) × (d .ifs ≤ e .ifs) × (d .loops ≤ e .loops) → Passes C a b p E k (beyond d y) m → Passes C a b p E k (beyond e y) m
   deeper-passes y d e l q = record { again = λ x w u m′ same room fits c. q .again x w u m′ same (omega (arith, l, room), omega (arith, l, room), omega (arith, l, room)) fits c }
 
-  module _ (i : Control) (p : ℕ) (r r′ : Part) (h : AsksBoth i p r r′) {t t₁ t₂ : ℕ} {d₁ d₂ : Deep} {m₁ m₂ : List Bool} (f : Left C a r t t₁ d₁ m₁) (f′ : Left C a r′ t₁ t₂ d₂ m₂) (g : Covers m₁ m₂) where
+  module _ (r : Part) (next : WordAddress) {t t₁ t₂ : ℕ} {d₁ d₂ : Deep} {m₁ m₂ : List Bool} (f : Left C a r t t₁ d₁ m₁) (f′ : Left C a (afterPart r next) t₁ t₂ d₂ m₂) (g : Covers m₁ m₂) where
     abbrev e : Deep
     e = deepest d₁ d₂
 
-    pub both-left : LeftBoth C a r r′ t t₂ e m₂
+    pub both-left : LeftBoth C a r next t t₂ e m₂
     both-left =
-        let same = follows h in
-        let heavy : r′ .weight ≡ r .weight = ap (λ y. y .weight) same in
         record {
           cost = f .cost + f′ .cost;
-          adds = omega (arith, f .adds, f′ .adds, ap (λ y. y * f′ .cost) heavy);
+          adds = omega (arith, f .adds, f′ .adds);
           over = (omega (arith, f .over, le-max-left (d₁ .calls) (d₂ .calls)), omega (arith, f .over, le-max-left (d₁ .ifs) (d₂ .ifs)), omega (arith, f .over, le-max-left (d₁ .loops) (d₂ .loops)));
           under = under-both a d₁ d₂ (f .under) (f′ .under);
           passes = record {
@@ -303,10 +298,10 @@ module _ (C : Code) (a : Allowed) where
             second = f′ .cost;
             sum = refl;
             before = passes-grow g (deeper-passes (r .opens) d₁ e (le-max-left (d₁ .calls) (d₂ .calls), le-max-left (d₁ .ifs) (d₂ .ifs), le-max-left (d₁ .loops) (d₂ .loops)) (f .passes));
-            after = deeper-passes (r .opens) d₂ e (le-max-right (d₁ .calls) (d₂ .calls), le-max-right (d₁ .ifs) (d₂ .ifs), le-max-right (d₁ .loops) (d₂ .loops)) (rw same at (f′ .passes));
+            after = deeper-passes (r .opens) d₂ e (le-max-right (d₁ .calls) (d₂ .calls), le-max-right (d₁ .ifs) (d₂ .ifs), le-max-right (d₁ .loops) (d₂ .loops)) (f′ .passes);
           };
         }
 
-  pub remembered-both : (i : Control) (p : ℕ) (r r′ : Part) {t t₁ : ℕ} {d : Deep} {m : List Bool} → AsksBoth i p r r′ → r .opens .looped ≡ false → (l : LeftBoth C a r r′ t t₁ d m)
+  pub remembered-both : (i : Control) (p : ℕ) (r : Part) (next : WordAddress) {t t₁ : ℕ} {d : Deep} {m : List Bool} → AsksBoth i p r next → r .opens .looped ≡ false → (l : LeftBoth C a r next t t₁ d m)
       → Recalled C a m i p (l .cost) (beyond d (r .opens))
-  remembered-both i p r r′ {d = d} {m = m} h b l = both-recalled h (l .cost) (beyond d (r .opens)) m (rw b at (l .passes))
+  remembered-both i p r next {d = d} {m = m} h b l = both-recalled h (l .cost) (beyond d (r .opens)) m (rw b at (l .passes))

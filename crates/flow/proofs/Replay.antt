@@ -13,7 +13,7 @@ use Rattle.binary.specs.Addresses.{wordAddress}
 use Rattle.binary.specs.declared.WordAddress.{WordAddress}
 use Rattle.instruction.specs.declared.flow_control.Control.{Control}
 use Rattle.instruction.specs.declared.flow_control.Control.the-variants.{Unknown, Plain, Emit, End, Break, If, Loop, Call, Jump}
-use Rattle.flow.specs.Inside.{rulesOf, unless, partOf, partsOf, lookOf, Scanned, scanned, stopOr, replay, scanOf, replayThen, scanBoth}
+use Rattle.flow.specs.Inside.{rulesOf, unless, partOf, partsOf, lookOf, Scanned, scanned, stopOr, replay, scanOf, replayThen, afterPart, scanBoth}
 use Rattle.flow.specs.Own.{nextOf}
 use Rattle.flow.specs.Rules.{Code, Rules, inIf, inLoop, inCall, pick}
 use Rattle.flow.specs.Visits.{Visit, Trace, nothing, follow, andThen, unlessFault, visiting, parts, faultAt, visit, region, size, trace}
@@ -89,7 +89,7 @@ module _ (C : Code) (a : Allowed) (x : Opens) (w p E : ℕ) (t : ℕ) (m : List 
   asked (Refuse n) = scanned (Stop n (wordAddress p)) m
   asked Next = replay C R (visits x w (p + 1) E) t m
   asked (One r next) = replayThen C R (replay C R (partVisits r) t m) (visits x w (next .0) E)
-  asked (Two r s next) = replayThen C R (scanBoth C a r s t m) (visits x w (next .0) E)
+  asked (Two r next) = replayThen C R (scanBoth C a r next t m) (visits x w (next .0) E)
 
   parts-asked : (i : Control) (l : p < E) (h : E ≤ C .words) → faultAt C R x p E ≡ Nothing → C .control p ≡ i
       → replayThen C R (replay C R (parts R (trace C R) i x w p .visits) t m) (visits x w (nextOf i p) E) ≡ asked (partsOf i x w p)
@@ -170,7 +170,7 @@ module _ (C : Code) (a : Allowed) (part : Part) (p t : ℕ) (m : List Bool) (h :
         unfolding asked
         scan-one g = rw (← scan-word e, ← d, g)
 
-      module _ {r r′ : Part} {next : WordAddress} (e : Two r r′ next ≡ lookOf C (rulesOf a) x w p E) {s : Scan} {m₁ : List Bool} (d : scanned s m₁ ≡ scanBoth C a r r′ (t + w) m′) where
+      module _ {r : Part} {next : WordAddress} (e : Two r next ≡ lookOf C (rulesOf a) x w p E) {s : Scan} {m₁ : List Bool} (d : scanned s m₁ ≡ scanBoth C a r next (t + w) m′) where
         pub scan-two-stop : {n : ℕ} {q : WordAddress} → s ≡ Stop n q → scanned s m₁ ≡ fromHere
         unfolding asked
         scan-two-stop g = rw (← scan-word e, ← d, g)
@@ -180,9 +180,9 @@ module _ (C : Code) (a : Allowed) (part : Part) (p t : ℕ) (m : List Bool) (h :
         scan-two g = rw (← scan-word e, ← d, g)
 
 -- a part after another: not visited after a stop, visited where the first was passed
-module _ (C : Code) (a : Allowed) (r r′ : Part) (t : ℕ) (m : List Bool) {s : Scan} {m₁ : List Bool} (d : scanned s m₁ ≡ scanOf C a r t m) where
-  pub both-stop : {n : ℕ} {q : WordAddress} → s ≡ Stop n q → scanned s m₁ ≡ scanBoth C a r r′ t m
+module _ (C : Code) (a : Allowed) (r : Part) (next : WordAddress) (t : ℕ) (m : List Bool) {s : Scan} {m₁ : List Bool} (d : scanned s m₁ ≡ scanOf C a r t m) where
+  pub both-stop : {n : ℕ} {q : WordAddress} → s ≡ Stop n q → scanned s m₁ ≡ scanBoth C a r next t m
   both-stop g = rw (← d, g)
 
-  pub both-go : {t₁ : ℕ} {s′ : Scan} {m₂ : List Bool} → s ≡ Go t₁ → scanned s′ m₂ ≡ scanOf C a r′ t₁ m₁ → scanned s′ m₂ ≡ scanBoth C a r r′ t m
+  pub both-go : {t₁ : ℕ} {s′ : Scan} {m₂ : List Bool} → s ≡ Go t₁ → scanned s′ m₂ ≡ scanOf C a (afterPart r next) t₁ m₁ → scanned s′ m₂ ≡ scanBoth C a r next t m
   both-go g f = rw (← d, g) f

@@ -7,8 +7,7 @@ use native.Mathlib.Omega.{arith}
 use lib.ListN.{length, getD, set, length-set}
 use Rattle.binary.specs.Addresses.{wordAddress}
 use Rattle.binary.specs.declared.WordAddress.{WordAddress}
-use Rattle.instruction.specs.declared.flow_control.Control.{Control}
-use Rattle.flow.specs.Inside.{rulesOf, partOf, lookOf, Weighs, scanned, scanOf, Covers, Left, LeftBoth, beyond, Under, Small, deepest, deepOf, Asks, AsksBoth, packed, deepAt, Memory, goesOn, passedAgain, Ready, Scans, ScansBoth}
+use Rattle.flow.specs.Inside.{rulesOf, partOf, lookOf, Weighs, scanned, scanOf, Covers, Left, LeftBoth, afterPart, beyond, Under, Small, deepest, deepOf, Asks, AsksBoth, packed, deepAt, Memory, goesOn, passedAgain, Ready, Scans, ScansBoth}
 use Rattle.flow.specs.Rules.{Code}
 use Rattle.flow.specs.declared.look.Allowed.{Allowed}
 use Rattle.flow.specs.declared.look.Look.the-variants.{Refuse, Next, One, Two}
@@ -133,8 +132,8 @@ module _ (C : Code) (a : Allowed) (part : Part) (total : ℕ) (m₀ : List Bool)
               }
 
         -- an IF, whose parts were entered
-        module _ {r r′ : Part} {next : WordAddress} (e : Two r r′ next ≡ lookOf C (rulesOf a) (part .opens) w p E) {o : Outcome} {m₁ : List Bool} {costs₁ depths₁ : List ℕ}
-            (f : ScansBoth C a r r′ (t + w) m′ o m₁ costs₁ depths₁) where
+        module _ {r : Part} {next : WordAddress} (e : Two r next ≡ lookOf C (rulesOf a) (part .opens) w p E) {o : Outcome} {m₁ : List Bool} {costs₁ depths₁ : List ℕ}
+            (f : ScansBoth C a r next (t + w) m′ o m₁ costs₁ depths₁) where
           pub two-stopped : {n : ℕ} {q : WordAddress} → o .scan ≡ Stop n q → Scans C a part total m₀ o m₁ costs₁ depths₁
           two-stopped z = stopped z (scan-two-stop C a part p t m h l u e (f .flow) z ∙ s .flow) (covers-trans grown′ (f .grown)) (f .long) (f .memory)
 
@@ -159,15 +158,9 @@ pub ready-after : {C : Code} {a : Allowed} {r : Part} {t : ℕ} {m m₁ : List B
 ready-after r′ few f within weighs under small = record { within = within; few = few; weighs = weighs; under = under; small = small; long = f .long; memory = f .memory }
 
 -- .. of an IF's second part
-pub ready-second : {C : Code} {a : Allowed} {i : Control} {p : ℕ} {r r′ : Part} {t : ℕ} {m m₁ : List Bool} {o : Outcome} {costs depths costs₁ depths₁ : List ℕ} → Ready C a r m costs depths → AsksBoth i p r r′ → Scans C a r t m o m₁ costs₁ depths₁
-    → r′ .to .0 ≤ C .words → Ready C a r′ m₁ costs₁ depths₁
-ready-second {C} {a} {r = r} {r′ = r′} y h f within = ready-after r′ (y .few) f within weighs under (y .small)
-  where
-    weighs : Weighs a r′
-    weighs = rw (h .second) (y .weighs)
-
-    under : Under a (deepOf (r′ .opens))
-    under = rw (h .second) (y .under)
+pub ready-second : {C : Code} {a : Allowed} {r : Part} {t : ℕ} {m m₁ : List Bool} {o : Outcome} {costs depths costs₁ depths₁ : List ℕ} (next : WordAddress) → Ready C a r m costs depths → Scans C a r t m o m₁ costs₁ depths₁ → next .0 ≤ C .words
+    → Ready C a (afterPart r next) m₁ costs₁ depths₁
+ready-second {r = r} next y f within = ready-after (afterPart r next) (y .few) f within (y .weighs) (y .under) (y .small)
 
 pub few-beyond : (a : Allowed) (d : Deep) (x : Opens) {e : Deep} → e ≡ beyond d x → Small a → Under a d → (e .calls < 256) × (e .ifs < 256) × (e .loops < 256)
 few-beyond a d x same h g = rw same (omega (arith, h .0, g .0), omega (arith, h .1, g .1), omega (arith, h .2, g .2))
@@ -203,39 +196,39 @@ module _ (C : Code) (a : Allowed) (r : Part) (t p : ℕ) (m : List Bool) {costs 
         }
 
 -- .. the two parts of an IF, outside a LOOP
-module _ (C : Code) (a : Allowed) (r r′ : Part) (t p : ℕ) (m : List Bool) {costs depths : List ℕ} (y : Ready C a r m costs depths) (h : AsksBoth (C .control p) p r r′) where
+module _ (C : Code) (a : Allowed) (r : Part) (next : WordAddress) (t p : ℕ) (m : List Bool) {costs depths : List ℕ} (y : Ready C a r m costs depths) (h : AsksBoth (C .control p) p r next) where
   pub recalled-both-scans : {o : Outcome} → r .opens .looped ≡ false → Again C a r t (getD costs p 0) (deepAt depths p) m → o ≡ passedAgain r t (getD costs p 0) (deepAt depths p)
-      → ScansBoth C a r r′ t m o m costs depths
+      → ScansBoth C a r next t m o m costs depths
   recalled-both-scans b g e =
       let k = getD costs p 0 in
       let d = deepAt depths p in
       let q = y .memory .recalls p (g .known) in
       rw e (record {
-        flow = recalled-both-flow C a r t k d m (C .control p) p r′ h b q g;
+        flow = recalled-both-flow C a r t k d m (C .control p) p next h b q g;
         grown = covers-self m;
         long = y .long;
         memory = y .memory;
-        left = λ u z. let same : t + r .weight * k ≡ u = cc in rw (← same) (recalled-both-left C a r t k d m (C .control p) p r′ h b q g);
+        left = λ u z. let same : t + r .weight * k ≡ u = cc in rw (← same) (recalled-both-left C a r t k d m (C .control p) p next h b q g);
       })
 
   -- a fault in the first, a fault in the second, and none
   module _ {o : Outcome} {m₁ : List Bool} {costs₁ depths₁ : List ℕ} (f : Scans C a r t m o m₁ costs₁ depths₁) where
-    pub both-stopped : {n : ℕ} {q : WordAddress} → o .scan ≡ Stop n q → ScansBoth C a r r′ t m o m₁ costs₁ depths₁
-    both-stopped z = record { flow = both-stop C a r r′ t m (f .flow) z; grown = f .grown; long = f .long; memory = f .memory; left = λ u e. apart (cc) }
+    pub both-stopped : {n : ℕ} {q : WordAddress} → o .scan ≡ Stop n q → ScansBoth C a r next t m o m₁ costs₁ depths₁
+    both-stopped z = record { flow = both-stop C a r next t m (f .flow) z; grown = f .grown; long = f .long; memory = f .memory; left = λ u e. apart (cc) }
 
-    module _ {t₁ : ℕ} (z : o .scan ≡ Go t₁) {o′ : Outcome} {m₂ : List Bool} {costs₂ depths₂ : List ℕ} (f′ : Scans C a r′ t₁ m₁ o′ m₂ costs₂ depths₂) where
-      pub both-stopped-2 : {n : ℕ} {q : WordAddress} → o′ .scan ≡ Stop n q → ScansBoth C a r r′ t m o′ m₂ costs₂ depths₂
+    module _ {t₁ : ℕ} (z : o .scan ≡ Go t₁) {o′ : Outcome} {m₂ : List Bool} {costs₂ depths₂ : List ℕ} (f′ : Scans C a (afterPart r next) t₁ m₁ o′ m₂ costs₂ depths₂) where
+      pub both-stopped-2 : {n : ℕ} {q : WordAddress} → o′ .scan ≡ Stop n q → ScansBoth C a r next t m o′ m₂ costs₂ depths₂
       both-stopped-2 e =
-          record { flow = both-go C a r r′ t m (f .flow) z (f′ .flow); grown = covers-trans (f .grown) (f′ .grown); long = f′ .long; memory = f′ .memory; left = λ u g. apart (cc) }
+          record { flow = both-go C a r next t m (f .flow) z (f′ .flow); grown = covers-trans (f .grown) (f′ .grown); long = f′ .long; memory = f′ .memory; left = λ u g. apart (cc) }
 
       module _ {t₂ : ℕ} {d : Deep} (z′ : o′ .scan ≡ Go t₂) (e : d ≡ deepest (o .deep) (o′ .deep)) where
-        pub left-both : LeftBoth C a r r′ t t₂ d m₂
-        left-both = rw e (both-left C a (C .control p) p r r′ h (f .left t₁ z) (f′ .left t₂ z′) (f′ .grown))
+        pub left-both : LeftBoth C a r next t t₂ d m₂
+        left-both = rw e (both-left C a r next (f .left t₁ z) (f′ .left t₂ z′) (f′ .grown))
 
-        pub both-passed : {o″ : Outcome} → o″ .scan ≡ Go t₂ → o″ .deep ≡ d → ScansBoth C a r r′ t m o″ m₂ costs₂ depths₂
+        pub both-passed : {o″ : Outcome} → o″ .scan ≡ Go t₂ → o″ .deep ≡ d → ScansBoth C a r next t m o″ m₂ costs₂ depths₂
         both-passed e₁ e₂ =
             record {
-              flow = rw (e₁, ← z′) (both-go C a r r′ t m (f .flow) z (f′ .flow));
+              flow = rw (e₁, ← z′) (both-go C a r next t m (f .flow) z (f′ .flow));
               grown = covers-trans (f .grown) (f′ .grown);
               long = f′ .long;
               memory = f′ .memory;
@@ -243,7 +236,7 @@ module _ (C : Code) (a : Allowed) (r r′ : Part) (t p : ℕ) (m : List Bool) {c
             }
 
         pub both-remembered : {o″ : Outcome} {k : ℕ} {d′ : Deep} {costs₃ depths₃ : List ℕ} → o″ .scan ≡ Go t₂ → o″ .deep ≡ d → r .opens .looped ≡ false → p < 512 → 1 ≤ r .weight → k ≡ (t₂ - t) / r .weight
-            → d′ ≡ beyond d (r .opens) → costs₃ ≡ set costs₂ p k → depths₃ ≡ set depths₂ p (packed d′) → ScansBoth C a r r′ t m o″ m₂ costs₃ depths₃
+            → d′ ≡ beyond d (r .opens) → costs₃ ≡ set costs₂ p k → depths₃ ≡ set depths₂ p (packed d′) → ScansBoth C a r next t m o″ m₂ costs₃ depths₃
         both-remembered e₁ e₂ b l heavy k-is d-is c₁ c₂ =
             let g = both-passed e₁ e₂ in
             let same = k-is ∙ cost-is C a (r .weight) t (left-both .cost) heavy (left-both .adds) in
@@ -251,6 +244,6 @@ module _ (C : Code) (a : Allowed) (r r′ : Part) (t p : ℕ) (m : List Bool) {c
               flow = g .flow;
               grown = g .grown;
               long = g .long;
-              memory = rw (c₁, c₂, same, d-is) (memory-more C a (f′ .memory) p (left-both .cost) (beyond d (r .opens)) l (few-beyond a d (r .opens) refl (y .small) (left-both .under)) (remembered-both C a (C .control p) p r r′ h b left-both));
+              memory = rw (c₁, c₂, same, d-is) (memory-more C a (f′ .memory) p (left-both .cost) (beyond d (r .opens)) l (few-beyond a d (r .opens) refl (y .small) (left-both .under)) (remembered-both C a (C .control p) p r next h b left-both));
               left = g .left;
             }

@@ -56,7 +56,7 @@ unless Nothing next = next
 unfoldable pub lookIf : Rules → Opens → ℕ → ℕ → ℕ → ℕ → ℕ → Look
 lookIf R x w p E dst num =
     unless (orElse (faultIf (not (leb (p + 2) dst && leb (dst + num) E)) 24 p) (faultIf (leb (R .ifs) (x .ifs)) 25 p))
-    (Two (partOf (inIf x) w (p + 1) dst) (partOf (inIf x) w dst (dst + num)) (wordAddress (dst + num)))
+    (Two (partOf (inIf x) w (p + 1) dst) (wordAddress (dst + num)))
 
 unfoldable pub lookLoop : Rules → Opens → ℕ → ℕ → ℕ → ℕ → Look
 lookLoop R x w p E dst =
@@ -78,7 +78,7 @@ partsOf Plain x w p = Next
 partsOf Emit x w p = Next
 partsOf End x w p = Next
 partsOf (Break c) x w p = Next
-partsOf (If c dst num) x w p = Two (partOf (inIf x) w (p + 1) (dst .0)) (partOf (inIf x) w (dst .0) (dst .0 + num)) (wordAddress (dst .0 + num))
+partsOf (If c dst num) x w p = Two (partOf (inIf x) w (p + 1) (dst .0)) (wordAddress (dst .0 + num))
 partsOf (Loop r dst) x w p = One (partOf (inLoop x) (w * 256) (p + 1) (dst .0 + 1)) (wordAddress (dst .0 + 1))
 partsOf (Call c dst num) x w p = One (partOf (inCall x) w (dst .0) (dst .0 + num)) (wordAddress (p + 1))
 partsOf (Jump c dst num) x w p = Next
@@ -130,18 +130,21 @@ goOn C R (scan.Stop n q) m us = scanned (scan.Stop n q) m
 abbrev pub replayThen : Code → Rules → Scanned → List Visit → Scanned
 replayThen C R s us = goOn C R (s .flow) (s .marks) us
 
--- the visits of a part, then those of another
-abbrev pub scanBoth : Code → Allowed → Part → Part → ℕ → List Bool → Scanned
-scanBoth C a r r′ t m = replayThen C (rulesOf a) (scanOf C a r t m) (trace C (rulesOf a) (r′ .opens) (r′ .weight) (r′ .from .0) (r′ .to .0) .visits)
+-- the part after another, with the same open, and the visits of both
+abbrev pub afterPart : Part → WordAddress → Part
+afterPart r next = partOf (r .opens) (r .weight) (r .to .0) (next .0)
 
--- a region that was passed once is passed wherever it fits. What it opens at most beyond what is open around it; both are allowed
+abbrev pub scanBoth : Code → Allowed → Part → WordAddress → ℕ → List Bool → Scanned
+scanBoth C a r next t m = replayThen C (rulesOf a) (scanOf C a r t m) (trace C (rulesOf a) (r .opens) (r .weight) (r .to .0) (next .0) .visits)
+
+-- what a region opens at most, without what is open around it; which must be among it
 abbrev pub beyond : Deep → Opens → Deep
 beyond d x = record { calls = d .calls - x .calls; ifs = d .ifs - x .ifs; loops = d .loops - x .loops }
 
 abbrev pub Over : Deep → Opens → Type 0
 Over d x = (x .calls ≤ d .calls) × (x .ifs ≤ d .ifs) × (x .loops ≤ d .loops)
 
--- .. and no more than is allowed
+-- no more than is allowed; and so much more than is open is allowed
 abbrev pub Under : Allowed → Deep → Type 0
 Under a d = (d .calls ≤ a .calls) × (d .ifs ≤ a .ifs) × (d .loops ≤ a .loops)
 
@@ -172,12 +175,12 @@ pub record Left (C : Code) (a : Allowed) (r : Part) (before after : ℕ) (d : De
   pub under : Under a d
   pub passes : Passes C a (r .opens .looped) (r .from .0) (r .to .0) cost (beyond d (r .opens)) m
 
-pub record LeftBoth (C : Code) (a : Allowed) (r r′ : Part) (before after : ℕ) (d : Deep) (m : List Bool) : Type 0 where
+pub record LeftBoth (C : Code) (a : Allowed) (r : Part) (next : WordAddress) (before after : ℕ) (d : Deep) (m : List Bool) : Type 0 where
   pub cost : ℕ
   pub adds : after ≡ before + r .weight * cost
   pub over : Over d (r .opens)
   pub under : Under a d
-  pub passes : PassesBoth C a (r .opens .looped) (r .from .0) (r .to .0) (r′ .to .0) cost (beyond d (r .opens)) m
+  pub passes : PassesBoth C a (r .opens .looped) (r .from .0) (r .to .0) (next .0) cost (beyond d (r .opens)) m
 
 abbrev pub deepest : Deep → Deep → Deep
 deepest d e = record { calls = max (d .calls) (e .calls); ifs = max (d .ifs) (e .ifs); loops = max (d .loops) (e .loops) }
@@ -201,15 +204,15 @@ Asks (Loop q dst) p r = (r .opens .looped ≡ true) × (r .from .0 ≡ p + 1) ×
 Asks (Call c dst num) p r = (r .opens .looped ≡ false) × (r .from .0 ≡ dst .0) × (r .to .0 ≡ dst .0 + num)
 Asks (Jump c dst num) p r = ⊥
 
--- the parts that an IF at p asks for: two regions, one after the other, with the same open
-pub record AsksBoth (i : Control) (p : ℕ) (r r′ : Part) : Type 0 where
+-- the parts that an IF at p asks for: its true one, and from that on its false one up to the next word
+pub record AsksBoth (i : Control) (p : ℕ) (r : Part) (next : WordAddress) : Type 0 where
   pub condition : Condition
   pub dst : WordAddress
   pub num : ℕ
   pub is : i ≡ If condition dst num
   pub from : r .from .0 ≡ p + 1
   pub to : r .to .0 ≡ dst .0
-  pub second : r′ ≡ partOf (r .opens) (r .weight) (dst .0) (dst .0 + num)
+  pub end : next .0 ≡ dst .0 + num
 
 -- a jump at p whose target is ahead, and an own word of every region that holds it
 pub record Reaches (C : Code) (p dst : ℕ) : Type 0 where
@@ -286,10 +289,10 @@ pub record Scans (C : Code) (a : Allowed) (r : Part) (before : ℕ) (m₀ : List
   pub memory : Memory C a m costs depths
   pub left : (t : ℕ) → o .scan ≡ scan.Go t → Left C a r before t (o .deep) m
 
--- .. and of two, one after the other
-pub record ScansBoth (C : Code) (a : Allowed) (r r′ : Part) (before : ℕ) (m₀ : List Bool) (o : Outcome) (m : List Bool) (costs depths : List ℕ) : Type 0 where
-  pub flow : scanned (o .scan) m ≡ scanBoth C a r r′ before m₀
+-- .. and of two, one after the other up to next
+pub record ScansBoth (C : Code) (a : Allowed) (r : Part) (next : WordAddress) (before : ℕ) (m₀ : List Bool) (o : Outcome) (m : List Bool) (costs depths : List ℕ) : Type 0 where
+  pub flow : scanned (o .scan) m ≡ scanBoth C a r next before m₀
   pub grown : Covers m₀ m
   pub long : length m ≡ 512
   pub memory : Memory C a m costs depths
-  pub left : (t : ℕ) → o .scan ≡ scan.Go t → LeftBoth C a r r′ before t (o .deep) m
+  pub left : (t : ℕ) → o .scan ≡ scan.Go t → LeftBoth C a r next before t (o .deep) m

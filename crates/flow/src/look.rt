@@ -37,12 +37,13 @@ pub struct Part {
     pub to: WordAddress,
 }
 
-// What a visited word asks for: to be refused, to go on at the next word, or to visit one part or two and go on after them.
+// What a visited word asks for: to be refused, to go on at the next word, or to visit one part or two and go on at a word after them. Of two, the second begins where
+// the first ends, has the same open, and ends at that word.
 pub enum Look {
     Refuse(u32),
     Next,
     One(Part, WordAddress),
-    Two(Part, Part, WordAddress),
+    Two(Part, WordAddress),
 }
 
 fn look_if(
@@ -75,13 +76,7 @@ fn look_if(
         from: WordAddress(p + 1),
         to: WordAddress(dst),
     };
-    let second = Part {
-        opens: inner,
-        weight,
-        from: WordAddress(dst),
-        to: WordAddress(next),
-    };
-    Look::Two(first, second, WordAddress(next))
+    Look::Two(first, WordAddress(next))
 }
 
 fn look_loop(allowed: Allowed, opens: Opens, weight: u32, p: u32, end: u32, dst: u32) -> Look

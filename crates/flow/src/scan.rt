@@ -4,7 +4,7 @@ ghost use Prim.Native.Nat.{_+_, _*_, _≤_, _<_, max};
 ghost use lib.ListN.{length, set};
 ghost use Rattle.binary.specs.Addresses.{wordAddress};
 ghost use Rattle.flow.specs.Flow.{codeOf};
-ghost use Rattle.flow.specs.Inside.{deepOf, deepest, beyond, Over, Under, Small, Room, Asks, AsksBoth, goesOn, packed, deepAt, fitsAgain, passedAgain, Weighs, scanned, scanOf, Ready, Scans, ScansBoth};
+ghost use Rattle.flow.specs.Inside.{afterPart, deepOf, deepest, beyond, Over, Under, Small, Room, Asks, AsksBoth, goesOn, packed, deepAt, fitsAgain, passedAgain, Weighs, scanned, scanOf, Ready, Scans, ScansBoth};
 use crate::look::Allowed;
 use crate::look::Look;
 use crate::look::Opens;
@@ -138,6 +138,19 @@ fn passed_again(allowed: Allowed, part: Part, total: u32, cost: u32, deep: Deep)
     }
 }
 
+// The part after another, with the same open, up to `next`.
+fn after_part(part: Part, next: WordAddress) -> Part
+    ensures { λ r. ⌜ r ≡ afterPart part next ⌝ }
+{
+    let opens = part.opens;
+    Part {
+        opens,
+        weight: part.weight,
+        from: WordAddress(part.to.0),
+        to: next,
+    }
+}
+
 // Whether a visited word without parts goes on, told without its tests: a word that has none; a jump whose target was found before and lies in the region.
 fn goes_on(control: Control, known: u32, end: u32) -> bool
     ensures { λ r. ⌜ r ≡ goesOn control known end ⌝ }
@@ -196,11 +209,11 @@ fn enter_both(
     depths: &mut [u32; 512],
     p: u32,
     yes: Part,
-    no: Part,
+    next: WordAddress,
     total: u32,
 ) -> Outcome
-    requires { ⌜ Ready (codeOf (now words) 0) allowed yes (now marks) (now costs) (now depths) × (no .to .0 ≤ length (now words)) × AsksBoth (codeOf (now words) 0 .control p) p yes no × (p < 512) ⌝ }
-    ensures { λ r. ⌜ ScansBoth (codeOf (now (words .entry)) 0) allowed yes no total (now (marks .entry)) r (now (marks .exit)) (now (costs .exit)) (now (depths .exit)) ⌝ }
+    requires { ⌜ Ready (codeOf (now words) 0) allowed yes (now marks) (now costs) (now depths) × (next .0 ≤ length (now words)) × AsksBoth (codeOf (now words) 0 .control p) p yes next × (p < 512) ⌝ }
+    ensures { λ r. ⌜ ScansBoth (codeOf (now (words .entry)) 0) allowed yes next total (now (marks .entry)) r (now (marks .exit)) (now (costs .exit)) (now (depths .exit)) ⌝ }
 {
     let at = p as usize;
     let cost = costs[at];
@@ -213,6 +226,7 @@ fn enter_both(
     let Scan::Go(between) = scan1 else {
         return first;
     };
+    let no = after_part(yes, next);
     let second = scan_part(words, allowed, marks, costs, depths, no, between);
     let scan2 = second.scan;
     let Scan::Go(after) = scan2 else {
@@ -277,8 +291,8 @@ pub(crate) fn scan_part(
                 t = t1;
                 p = next.0;
             }
-            Look::Two(yes, no, next) => {
-                let found = enter_both(words, allowed, marks, costs, depths, p, yes, no, t);
+            Look::Two(yes, next) => {
+                let found = enter_both(words, allowed, marks, costs, depths, p, yes, next, t);
                 let gone = found.scan;
                 let Scan::Go(t1) = gone else {
                     return found;

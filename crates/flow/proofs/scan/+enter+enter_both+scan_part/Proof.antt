@@ -7,7 +7,7 @@ use native.Mathlib.Omega.{arith}
 use borrow.Author.Needs.{needs}
 use lib.ListN.{getD}
 use Rattle.flow.specs.Flow.{codeOf}
-use Rattle.flow.specs.Inside.{rulesOf, goesOn, passedAgain}
+use Rattle.flow.specs.Inside.{rulesOf, afterPart, goesOn, passedAgain}
 use Rattle.flow.specs.Visits.{size}
 use Rattle.flow.proofs.Looks.{light, heavy, later, fits-at}
 use Rattle.flow.proofs.Remembering.{asks-one, asks-both, fits-known}
@@ -25,6 +25,7 @@ use Rattle.flow.proofs.scan.scan_part.Reads as scan-part
 use Rattle.flow.proofs.scan.scan_part.Kinds as scan-part-kinds
 use Rattle.flow.proofs.scan.+enter+enter_both+scan_part.Lts-scan_part as scan-part-lts
 use Rattle.flow.proofs.look.look_at.Reads as look-at-reads
+use Rattle.flow.proofs.scan.after_part.Reads as after-part-reads
 use Rattle.flow.proofs.scan.beyond_of.Reads as beyond-of-reads
 use Rattle.flow.proofs.scan.deep_at.Reads as deep-at-reads
 use Rattle.flow.proofs.scan.deep_of.Reads as deep-of-reads
@@ -43,7 +44,10 @@ abbrev μ-enter : Measures 4 enter-kinds.ps ℕ
 
 -- of the larger of the two parts
 abbrev μ-enter-both : Measures 4 enter-both-kinds.ps ℕ
-μ-enter-both κs a = let yes = a .1 .1 .1 .1 .1 .1 .0 in let no = a .1 .1 .1 .1 .1 .1 .1 .0 in 2 * max (size (codeOf (a .0 .now) 0) (rulesOf (a .1 .0)) (yes .opens) (yes .from .0) (yes .to .0)) (size (codeOf (a .0 .now) 0) (rulesOf (a .1 .0)) (no .opens) (no .from .0) (no .to .0)) + 1
+μ-enter-both κs a =
+    let yes = a .1 .1 .1 .1 .1 .1 .0 in
+    let no = afterPart yes (a .1 .1 .1 .1 .1 .1 .1 .0) in
+    2 * max (size (codeOf (a .0 .now) 0) (rulesOf (a .1 .0)) (yes .opens) (yes .from .0) (yes .to .0)) (size (codeOf (a .0 .now) 0) (rulesOf (a .1 .0)) (no .opens) (no .from .0) (no .to .0)) + 1
 
 abbrev μ-scan-part : Measures 4 scan-part-kinds.ps ℕ
 μ-scan-part κs a = let part = a .1 .1 .1 .1 .1 .0 in 2 * size (codeOf (a .0 .now) 0) (rulesOf (a .1 .0)) (part .opens) (part .from .0) (part .to .0)
@@ -73,7 +77,7 @@ abbrev enter-claims : ℕ → enter-lts.Claims
 enter-claims t = (deep-at-reads.Asked, deep-at-reads.Learnt, fits-again-reads.Asked, fits-again-reads.Learnt, passed-again-reads.Asked, passed-again-reads.Learnt, scan-part-below t, scan-part.Post, beyond-of-reads.Asked, beyond-of-reads.Learnt, remember-reads.Asked, remember-reads.Learnt)
 
 abbrev both-claims : ℕ → enter-both-lts.Claims
-both-claims t = (deep-at-reads.Asked, deep-at-reads.Learnt, fits-again-reads.Asked, fits-again-reads.Learnt, passed-again-reads.Asked, passed-again-reads.Learnt, scan-part-below t, scan-part.Post, deepest-of-reads.Asked, deepest-of-reads.Learnt, beyond-of-reads.Asked, beyond-of-reads.Learnt, remember-reads.Asked, remember-reads.Learnt)
+both-claims t = (deep-at-reads.Asked, deep-at-reads.Learnt, fits-again-reads.Asked, fits-again-reads.Learnt, passed-again-reads.Asked, passed-again-reads.Learnt, scan-part-below t, scan-part.Post, after-part-reads.Asked, after-part-reads.Learnt, deepest-of-reads.Asked, deepest-of-reads.Learnt, beyond-of-reads.Asked, beyond-of-reads.Learnt, remember-reads.Asked, remember-reads.Learnt)
 
 abbrev claims : ℕ → scan-part-lts.Claims
 claims t = (deep-of-reads.Asked, deep-of-reads.Learnt, stop-reads.Asked, stop-reads.Learnt, control-of-reads.Asked, control-of-reads.Learnt, goes-on-reads.Asked, goes-on-reads.Learnt, look-at-reads.Asked, look-at-reads.Learnt, enter-below t, enter.Post, deepest-of-reads.Asked, deepest-of-reads.Learnt, enter-both-below t, enter-both.Post)
@@ -176,12 +180,12 @@ both-returns t c =
     let C = codeOf (k .args .words .now) 0 in
     let d = c .before .before .before .before .deep-at .ensures in
     let g = fits-known C (k .args .allowed) (k .args .yes) (k .args .total) (getD (k .args .costs .now) (k .args .p) 0) (c .before .before .before .before .deep-at .result) (k .args .marks .now) (sym (c .before .before .fits-again .ensures) ∙ both (not (k .args .yes .opens .looped)) (c .before .before .fits-again .result) (c .before .if1 .taken) .1) in
-    recalled-both-scans C (k .args .allowed) (k .args .yes) (k .args .no) (k .args .total) (k .args .p) (k .args .marks .now) (k .pre .1 .0) (k .pre .1 .2) (not-true _ (both (not (k .args .yes .opens .looped)) (c .before .before .fits-again .result) (c .before .if1 .taken) .0)) (rw d at g) (c .passed-again .ensures ∙ ap (λ y. passedAgain (k .args .yes) (k .args .total) (getD (k .args .costs .now) (k .args .p) 0) y) d)
+    recalled-both-scans C (k .args .allowed) (k .args .yes) (k .args .next) (k .args .total) (k .args .p) (k .args .marks .now) (k .pre .1 .0) (k .pre .1 .2) (not-true _ (both (not (k .args .yes .opens .looped)) (c .before .before .fits-again .result) (c .before .if1 .taken) .0)) (rw d at g) (c .passed-again .ensures ∙ ap (λ y. passedAgain (k .args .yes) (k .args .total) (getD (k .args .costs .now) (k .args .p) 0) y) d)
 
 both-scan-part-requires : (t : ℕ) → enter-both-lts.Need-scan-part-requires (both-claims t) (enter-both-at t) enter-both.Post
 both-scan-part-requires t c κs =
     let k = c .before .before .before .before .before .before .before .before .before .before in
-    (omega (arith, k .pre .0, le-max-left (size (codeOf (k .args .words .now) 0) (rulesOf (k .args .allowed)) (k .args .yes .opens) (k .args .yes .from .0) (k .args .yes .to .0)) (size (codeOf (k .args .words .now) 0) (rulesOf (k .args .allowed)) (k .args .no .opens) (k .args .no .from .0) (k .args .no .to .0))), k .pre .1 .0)
+    (omega (arith, k .pre .0, le-max-left (size (codeOf (k .args .words .now) 0) (rulesOf (k .args .allowed)) (k .args .yes .opens) (k .args .yes .from .0) (k .args .yes .to .0)) (size (codeOf (k .args .words .now) 0) (rulesOf (k .args .allowed)) (k .args .yes .opens) (k .args .yes .to .0) (k .args .next .0))), k .pre .1 .0)
 
 both-enum-known-scan1 : (t : ℕ) → enter-both-lts.Need-enum-known-scan1 (both-claims t) (enter-both-at t) enter-both.Post
 both-enum-known-scan1 t c = search needs
@@ -193,12 +197,15 @@ both-returns-2 : (t : ℕ) → enter-both-lts.Need-returns-2 (both-claims t) (en
 both-returns-2 t c =
     let k = c .before .before .before .before .before .before .before .before .before .before .before .before .before in
     let C = codeOf (k .args .words .now) 0 in
-    both-stopped C (k .args .allowed) (k .args .yes) (k .args .no) (k .args .total) (k .args .p) (k .args .marks .now) (k .pre .1 .0) (k .pre .1 .2) (c .before .before .scan-part .ensures) (c .enum-told .given .1)
+    both-stopped C (k .args .allowed) (k .args .yes) (k .args .next) (k .args .total) (k .args .p) (k .args .marks .now) (k .pre .1 .0) (k .pre .1 .2) (c .before .before .scan-part .ensures) (c .enum-told .given .1)
+
+both-after-part-requires : (t : ℕ) → enter-both-lts.Need-after-part-requires (both-claims t) (enter-both-at t) enter-both.Post
+both-after-part-requires t c κs = search needs
 
 both-scan-part-requires-2 : (t : ℕ) → enter-both-lts.Need-scan-part-requires-2 (both-claims t) (enter-both-at t) enter-both.Post
 both-scan-part-requires-2 t c κs =
-    let k = c .before .before .before .before .before .before .before .before .before .before .before .before .before .before .before .before .before in
-    (omega (arith, k .pre .0, le-max-right (size (codeOf (k .args .words .now) 0) (rulesOf (k .args .allowed)) (k .args .yes .opens) (k .args .yes .from .0) (k .args .yes .to .0)) (size (codeOf (k .args .words .now) 0) (rulesOf (k .args .allowed)) (k .args .no .opens) (k .args .no .from .0) (k .args .no .to .0))), ready-second (k .pre .1 .0) (k .pre .1 .2) (c .before .before .before .before .before .before .scan-part .ensures) (k .pre .1 .1))
+    let k = c .before .before .before .before .before .before .before .before .before .before .before .before .before .before .before .before .before .before in
+    rw (c .before .before .before .after-part .ensures) (omega (arith, k .pre .0, le-max-right (size (codeOf (k .args .words .now) 0) (rulesOf (k .args .allowed)) (k .args .yes .opens) (k .args .yes .from .0) (k .args .yes .to .0)) (size (codeOf (k .args .words .now) 0) (rulesOf (k .args .allowed)) (k .args .yes .opens) (k .args .yes .to .0) (k .args .next .0))), ready-second (k .args .next) (k .pre .1 .0) (c .before .before .before .before .before .before .before .scan-part .ensures) (k .pre .1 .1))
 
 both-enum-known-scan2 : (t : ℕ) → enter-both-lts.Need-enum-known-scan2 (both-claims t) (enter-both-at t) enter-both.Post
 both-enum-known-scan2 t c = search needs
@@ -208,46 +215,46 @@ both-enum-told-2 t c = search needs
 
 both-returns-3 : (t : ℕ) → enter-both-lts.Need-returns-3 (both-claims t) (enter-both-at t) enter-both.Post
 both-returns-3 t c =
-    let k = c .before .before .before .before .before .before .before .before .before .before .before .before .before .before .before .before .before .before .before .before in
+    let k = c .before .before .before .before .before .before .before .before .before .before .before .before .before .before .before .before .before .before .before .before .before in
     let C = codeOf (k .args .words .now) 0 in
-    both-stopped-2 C (k .args .allowed) (k .args .yes) (k .args .no) (k .args .total) (k .args .p) (k .args .marks .now) (k .pre .1 .0) (k .pre .1 .2) (c .before .before .before .before .before .before .before .before .before .scan-part .ensures) (c .before .before .before .before .before .before .before .scan1 .given .1) (c .before .before .scan-part2 .ensures) (c .enum-told2 .given .1)
+    both-stopped-2 C (k .args .allowed) (k .args .yes) (k .args .next) (k .args .total) (k .args .p) (k .args .marks .now) (k .pre .1 .0) (k .pre .1 .2) (c .before .before .before .before .before .before .before .before .before .before .scan-part .ensures) (c .before .before .before .before .before .before .before .before .scan1 .given .1) (rw (c .before .before .before .before .before .before .after-part .ensures) at (c .before .before .scan-part2 .ensures)) (c .enum-told2 .given .1)
 
 both-deepest-of-requires : (t : ℕ) → enter-both-lts.Need-deepest-of-requires (both-claims t) (enter-both-at t) enter-both.Post
 both-deepest-of-requires t c κs = search needs
 
 both-sub-cost : (t : ℕ) → enter-both-lts.Need-sub-cost (both-claims t) (enter-both-at t) enter-both.Post
-both-sub-cost t c = omega (arith, c .before .before .before .before .before .before .before .before .before .before .before .before .before .scan-part .ensures .left _ (c .before .before .before .before .before .before .before .before .before .before .before .scan1 .given .1) .adds, c .before .before .before .before .before .before .scan-part2 .ensures .left _ (c .before .before .before .before .scan2 .given .1) .adds)
+both-sub-cost t c = omega (arith, c .before .before .before .before .before .before .before .before .before .before .before .before .before .before .scan-part .ensures .left _ (c .before .before .before .before .before .before .before .before .before .before .before .before .scan1 .given .1) .adds, (rw (c .before .before .before .before .before .before .before .before .before .before .after-part .ensures) at (c .before .before .before .before .before .before .scan-part2 .ensures)) .left _ (c .before .before .before .before .scan2 .given .1) .adds)
 
 both-div-cost : (t : ℕ) → enter-both-lts.Need-div-cost (both-claims t) (enter-both-at t) enter-both.Post
 both-div-cost t c =
-    let k = c .before .before .before .before .before .before .before .before .before .before .before .before .before .before .before .before .before .before .before .before .before .before .before .before .before in
+    let k = c .before .before .before .before .before .before .before .before .before .before .before .before .before .before .before .before .before .before .before .before .before .before .before .before .before .before in
     omega (arith, k .pre .1 .0 .weighs .0, heavy (k .args .yes .opens .loops))
 
 both-beyond-of-requires : (t : ℕ) → enter-both-lts.Need-beyond-of-requires (both-claims t) (enter-both-at t) enter-both.Post
 both-beyond-of-requires t c κs =
-    let k = c .before .before .before .before .before .before .before .before .before .before .before .before .before .before .before .before .before .before .before .before .before .before .before .before .before .before .before in
+    let k = c .before .before .before .before .before .before .before .before .before .before .before .before .before .before .before .before .before .before .before .before .before .before .before .before .before .before .before .before in
     let C = codeOf (k .args .words .now) 0 in
-    left-both C (k .args .allowed) (k .args .yes) (k .args .no) (k .args .total) (k .args .p) (k .args .marks .now) (k .pre .1 .0) (k .pre .1 .2) (c .before .before .before .before .before .before .before .before .before .before .before .before .before .before .before .before .scan-part .ensures) (c .before .before .before .before .before .before .before .before .before .before .before .before .before .before .scan1 .given .1) (c .before .before .before .before .before .before .before .before .before .scan-part2 .ensures) (c .before .before .before .before .before .before .before .scan2 .given .1) (c .before .before .before .before .before .deepest-of .ensures) .over
+    left-both C (k .args .allowed) (k .args .yes) (k .args .next) (k .args .total) (k .args .p) (k .args .marks .now) (k .pre .1 .0) (k .pre .1 .2) (c .before .before .before .before .before .before .before .before .before .before .before .before .before .before .before .before .before .scan-part .ensures) (c .before .before .before .before .before .before .before .before .before .before .before .before .before .before .before .scan1 .given .1) (rw (c .before .before .before .before .before .before .before .before .before .before .before .before .before .after-part .ensures) at (c .before .before .before .before .before .before .before .before .before .scan-part2 .ensures)) (c .before .before .before .before .before .before .before .scan2 .given .1) (c .before .before .before .before .before .deepest-of .ensures) .over
 
 both-remember-requires : (t : ℕ) → enter-both-lts.Need-remember-requires (both-claims t) (enter-both-at t) enter-both.Post
 both-remember-requires t c κs =
-    let k = c .before .before .before .before .before .before .before .before .before .before .before .before .before .before .before .before .before .before .before .before .before .before .before .before .before .before .before .before in
+    let k = c .before .before .before .before .before .before .before .before .before .before .before .before .before .before .before .before .before .before .before .before .before .before .before .before .before .before .before .before .before in
     let C = codeOf (k .args .words .now) 0 in
-    let s = few-beyond (k .args .allowed) _ (k .args .yes .opens) (c .beyond-of .ensures) (k .pre .1 .0 .small) (left-both C (k .args .allowed) (k .args .yes) (k .args .no) (k .args .total) (k .args .p) (k .args .marks .now) (k .pre .1 .0) (k .pre .1 .2) (c .before .before .before .before .before .before .before .before .before .before .before .before .before .before .before .before .before .scan-part .ensures) (c .before .before .before .before .before .before .before .before .before .before .before .before .before .before .before .scan1 .given .1) (c .before .before .before .before .before .before .before .before .before .before .scan-part2 .ensures) (c .before .before .before .before .before .before .before .before .scan2 .given .1) (c .before .before .before .before .before .before .deepest-of .ensures) .under) in
+    let s = few-beyond (k .args .allowed) _ (k .args .yes .opens) (c .beyond-of .ensures) (k .pre .1 .0 .small) (left-both C (k .args .allowed) (k .args .yes) (k .args .next) (k .args .total) (k .args .p) (k .args .marks .now) (k .pre .1 .0) (k .pre .1 .2) (c .before .before .before .before .before .before .before .before .before .before .before .before .before .before .before .before .before .before .scan-part .ensures) (c .before .before .before .before .before .before .before .before .before .before .before .before .before .before .before .before .scan1 .given .1) (rw (c .before .before .before .before .before .before .before .before .before .before .before .before .before .before .after-part .ensures) at (c .before .before .before .before .before .before .before .before .before .before .scan-part2 .ensures)) (c .before .before .before .before .before .before .before .before .scan2 .given .1) (c .before .before .before .before .before .before .deepest-of .ensures) .under) in
     (k .pre .1 .3, s .0, s .1, s .2)
 
 both-returns-4 : (t : ℕ) → enter-both-lts.Need-returns-4 (both-claims t) (enter-both-at t) enter-both.Post
 both-returns-4 t c =
-    let k = c .before .before .before .before .before .before .before .before .before .before .before .before .before .before .before .before .before .before .before .before .before .before .before .before .before .before .before .before .before in
+    let k = c .before .before .before .before .before .before .before .before .before .before .before .before .before .before .before .before .before .before .before .before .before .before .before .before .before .before .before .before .before .before in
     let C = codeOf (k .args .words .now) 0 in
     let r = c .remember .ensures in
-    both-remembered C (k .args .allowed) (k .args .yes) (k .args .no) (k .args .total) (k .args .p) (k .args .marks .now) (k .pre .1 .0) (k .pre .1 .2) (c .before .before .before .before .before .before .before .before .before .before .before .before .before .before .before .before .before .before .scan-part .ensures) (c .before .before .before .before .before .before .before .before .before .before .before .before .before .before .before .before .scan1 .given .1) (c .before .before .before .before .before .before .before .before .before .before .before .scan-part2 .ensures) (c .before .before .before .before .before .before .before .before .before .scan2 .given .1) (c .before .before .before .before .before .before .before .deepest-of .ensures) refl refl (not-true _ (c .before .before .before .before .before .if2 .taken)) (k .pre .1 .3) (omega (arith, k .pre .1 .0 .weighs .0, heavy (k .args .yes .opens .loops))) refl (c .before .beyond-of .ensures) (r .0) (r .1)
+    both-remembered C (k .args .allowed) (k .args .yes) (k .args .next) (k .args .total) (k .args .p) (k .args .marks .now) (k .pre .1 .0) (k .pre .1 .2) (c .before .before .before .before .before .before .before .before .before .before .before .before .before .before .before .before .before .before .before .scan-part .ensures) (c .before .before .before .before .before .before .before .before .before .before .before .before .before .before .before .before .before .scan1 .given .1) (rw (c .before .before .before .before .before .before .before .before .before .before .before .before .before .before .before .after-part .ensures) at (c .before .before .before .before .before .before .before .before .before .before .before .scan-part2 .ensures)) (c .before .before .before .before .before .before .before .before .before .scan2 .given .1) (c .before .before .before .before .before .before .before .deepest-of .ensures) refl refl (not-true _ (c .before .before .before .before .before .if2 .taken)) (k .pre .1 .3) (omega (arith, k .pre .1 .0 .weighs .0, heavy (k .args .yes .opens .loops))) refl (c .before .beyond-of .ensures) (r .0) (r .1)
 
 both-returns-5 : (t : ℕ) → enter-both-lts.Need-returns-5 (both-claims t) (enter-both-at t) enter-both.Post
 both-returns-5 t c =
-    let k = c .before .before .before .before .before .before .before .before .before .before .before .before .before .before .before .before .before .before .before .before .before .before .before .before in
+    let k = c .before .before .before .before .before .before .before .before .before .before .before .before .before .before .before .before .before .before .before .before .before .before .before .before .before in
     let C = codeOf (k .args .words .now) 0 in
-    both-passed C (k .args .allowed) (k .args .yes) (k .args .no) (k .args .total) (k .args .p) (k .args .marks .now) (k .pre .1 .0) (k .pre .1 .2) (c .before .before .before .before .before .before .before .before .before .before .before .before .before .scan-part .ensures) (c .before .before .before .before .before .before .before .before .before .before .before .scan1 .given .1) (c .before .before .before .before .before .before .scan-part2 .ensures) (c .before .before .before .before .scan2 .given .1) (c .before .before .deepest-of .ensures) refl refl
+    both-passed C (k .args .allowed) (k .args .yes) (k .args .next) (k .args .total) (k .args .p) (k .args .marks .now) (k .pre .1 .0) (k .pre .1 .2) (c .before .before .before .before .before .before .before .before .before .before .before .before .before .before .scan-part .ensures) (c .before .before .before .before .before .before .before .before .before .before .before .before .scan1 .given .1) (rw (c .before .before .before .before .before .before .before .before .before .before .after-part .ensures) at (c .before .before .before .before .before .before .scan-part2 .ensures)) (c .before .before .before .before .scan2 .given .1) (c .before .before .deepest-of .ensures) refl refl
 
 abbrev Inv-loop : scan-part-lts.InvT-loop
 Inv-loop words allowed marks₀ costs₀ depths₀ part total end p₀ t₀ deep₀ marks costs depths p t deep = Standing (codeOf words 0) allowed part total marks₀ marks costs depths p t deep
@@ -504,6 +511,7 @@ pub +enter+enter-both+scan-part-spec : {M : Type 1} → statement M
     (both-enum-known-scan1 t)
     (both-enum-told t)
     (both-returns-2 t)
+    (both-after-part-requires t)
     (both-scan-part-requires-2 t)
     (both-enum-known-scan2 t)
     (both-enum-told-2 t)
