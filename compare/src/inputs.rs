@@ -39,7 +39,7 @@ pub fn all() -> Vec<Input> {
         ("calls over jumps to the next word", calls_over(jumps_on())),
         ("calls over jumps to the last word", calls_over(jumps_far())),
         ("257 calls of nested IFs", nested_in_calls()),
-        ("257 calls of 253 calls", calls_in_calls()),
+        ("calls of calls", calls_in_calls()),
         ("511 jumps to the last word", only_jumps()),
     ];
     let tables = [
@@ -157,11 +157,12 @@ fn nested_in_calls() -> Content {
     main_only(words)
 }
 
-/// 257 calls of one region of 253 calls of a NOP: what a check that remembers a called region by the word that calls it takes longest for.
+/// 257 calls of 34 calls of 220 calls of END: of 73,781 visits 72,758 meet a call that was made before, near the most that 512 words and a total of 4,000,000 allow.
 fn calls_in_calls() -> Content {
     let mut words = vec![aimed(CALL, 257, 255); 257];
-    words.extend([aimed(CALL, 510, 1); 253]);
-    words.extend([NOP, END]);
+    words.extend([aimed(CALL, 291, 221); 34]);
+    words.extend([aimed(CALL, 511, 1); 220]);
+    words.push(END);
     main_only(words)
 }
 

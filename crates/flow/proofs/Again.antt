@@ -1,5 +1,5 @@
--- A jump that goes on in one region goes on in every region that holds its target, whatever is open: the target need not be searched again. Assumes nothing.
-use mathlib.Core.Path.{_≡_, refl, sym, ap, _∙_}
+-- A jump that goes on in one region goes on up to every end past its target, whatever is open: the target need not be searched again. Assumes nothing.
+use mathlib.Core.Path.{_≡_, refl}
 use mathlib.Core.Bool.{Bool, true, false, not, _&&_, _||_}
 use mathlib.Core.List.{List, [], _∷_}
 use Prim.Native.Nat.{ℕ, zero, suc, _+_, _-_, _≤_, _<_}
@@ -10,7 +10,7 @@ use Rattle.instruction.specs.declared.flow_control.Control.{Control}
 use Rattle.instruction.specs.declared.flow_control.Control.the-variants.{Unknown, Plain, Emit, End, Break, If, Loop, Call, Jump}
 use Rattle.flow.specs.Inside.{rulesOf, unless, partsOf, lookOf, Reaches, Recalled, goesOn}
 use Rattle.flow.specs.Own.{nextOf, spans, ownFrom, ownWords, has}
-use Rattle.flow.specs.Rules.{Code, Rules, pick}
+use Rattle.flow.specs.Rules.{Code, pick}
 use Rattle.flow.specs.Visits.{faultAt}
 use Rattle.flow.specs.declared.look.Allowed.{Allowed}
 use Rattle.flow.specs.declared.look.Look.the-variants.{Next}
@@ -84,7 +84,7 @@ module _ (C : Code) where
   unfolding ownWords
   own-again p E E′ d e h = own-again-to (E - p) (E′ - p) p E E′ d e h (omega arith)
 
-  -- a good jump's target is one in every region that holds it
+  -- a good jump's target is good up to every end past it
   pub jump-reaches : (p E dst : ℕ) → ltb p dst && (ltb dst E && has (ownWords C (p + 1) E) dst) ≡ true → Reaches C p dst
   jump-reaches p E dst e =
       let (after, rest) = both (ltb p dst) _ e in

@@ -1,32 +1,30 @@
 -- A region that the check passes with some opens, weight, total and marks is passed with any others that fit, at the same cost, and adds the same words to the marks: own word by own word.
 -- Assumes nothing.
 use mathlib.Core.Path.{_≡_, refl, sym, ap, _∙_}
-use mathlib.Core.Bool.{Bool, true, false, not, _&&_, _||_}
+use mathlib.Core.Bool.{Bool, true, false}
 use mathlib.Core.List.{List, [], _∷_}
 use Prim.Native.Nat.{ℕ, zero, suc, _+_, _*_, _-_, _≤_, _<_}
 use native.Mathlib.Nat.{le-max-left, le-max-right, max-le, mul-assoc}
 use native.Mathlib.Omega.{arith}
-use lib.Dec.{leb, ltb, eqb}
+use lib.Dec.{eqb}
 use lib.ListN.{length, getD, set}
-use lib.Seq.{getD-set-same, getD-set-other, ext-getD}
-use borrow.Author.Tests.{lt-leb, leb-false, eqb-true, eqb-false}
+use lib.Seq.{getD-set-same, getD-set-other}
+use borrow.Author.Tests.{lt-leb, eqb-true, eqb-false}
 use Rattle.answer.specs.declared.Fault.{Fault}
 use Rattle.answer.specs.declared.Fault.the-variants.{Nothing, At}
 use Rattle.binary.specs.Addresses.{wordAddress}
 use Rattle.binary.specs.declared.WordAddress.{WordAddress}
 use Rattle.instruction.specs.declared.flow_control.Control.{Control}
 use Rattle.instruction.specs.declared.flow_control.Control.the-variants.{Unknown, Plain, Emit, End, Break, If, Loop, Call, Jump}
-use Rattle.flow.specs.Inside.{rulesOf, unless, partOf, partsOf, lookOf, scanned, scanOf, beyond, Over, Under, Room, Covers, Passes, PassesBoth, Left, LeftBoth, afterPart, scanBoth, deepest, deepOf}
+use Rattle.flow.specs.Inside.{rulesOf, unless, partOf, partsOf, lookOf, scanned, scanOf, beyond, Over, Under, Room, Covers, Passes, Left, LeftBoth, afterPart, scanBoth, deepest, deepOf}
 use Rattle.flow.specs.Rules.{Code, Rules, inIf, inLoop, inCall, pick}
 use Rattle.flow.specs.Visits.{faultAt}
 use Rattle.flow.specs.declared.look.Allowed.{Allowed}
-use Rattle.flow.specs.declared.look.Look.{Look}
-use Rattle.flow.specs.declared.look.Look.the-variants.{Refuse, Next, One, Two}
+use Rattle.flow.specs.declared.look.Look.the-variants.{Next, One, Two}
 use Rattle.flow.specs.declared.look.Opens.{Opens}
 use Rattle.flow.specs.declared.look.Part.{Part}
 use Rattle.flow.specs.declared.scan.Deep.{Deep}
-use Rattle.flow.specs.declared.scan.Scan.{Scan}
-use Rattle.flow.specs.declared.scan.Scan.the-variants.{Go, Stop}
+use Rattle.flow.specs.declared.scan.Scan.the-variants.{Go}
 use Rattle.flow.proofs.Depth.{Passed, fault-none}
 use Rattle.flow.proofs.Tests.{apart, false-not-true}
 use Rattle.flow.proofs.Replay.{scan-end, scan-next, scan-one, scan-two, both-go}

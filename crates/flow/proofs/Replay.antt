@@ -1,8 +1,8 @@
 -- Visits replayed one after another are what scanning a region does: by the parts of each word. Assumes nothing.
 use mathlib.Core.Path.{_≡_, refl, sym, ap, _∙_}
-use mathlib.Core.Bool.{Bool, true, false, not, _&&_, _||_}
+use mathlib.Core.Bool.{Bool, true, false, not, _||_}
 use mathlib.Core.List.{List, [], _∷_, _++_}
-use Prim.Native.Nat.{ℕ, zero, suc, _+_, _*_, _-_, _≤_, _<_}
+use Prim.Native.Nat.{ℕ, suc, _+_, _-_, _≤_, _<_}
 use native.Mathlib.Omega.{arith}
 use lib.Dec.{ltb}
 use lib.ListN.{set}
@@ -15,8 +15,8 @@ use Rattle.instruction.specs.declared.flow_control.Control.{Control}
 use Rattle.instruction.specs.declared.flow_control.Control.the-variants.{Unknown, Plain, Emit, End, Break, If, Loop, Call, Jump}
 use Rattle.flow.specs.Inside.{rulesOf, unless, partOf, partsOf, lookOf, Scanned, scanned, stopOr, replay, scanOf, replayThen, afterPart, scanBoth}
 use Rattle.flow.specs.Own.{nextOf}
-use Rattle.flow.specs.Rules.{Code, Rules, inIf, inLoop, inCall, pick}
-use Rattle.flow.specs.Visits.{Visit, Trace, nothing, follow, andThen, unlessFault, visiting, parts, faultAt, visit, region, size, trace}
+use Rattle.flow.specs.Rules.{Code, Rules, inIf, pick}
+use Rattle.flow.specs.Visits.{Visit, Trace, nothing, follow, andThen, unlessFault, parts, faultAt, visit, region, size, trace}
 use Rattle.flow.specs.declared.look.Allowed.{Allowed}
 use Rattle.flow.specs.declared.look.Look.{Look}
 use Rattle.flow.specs.declared.look.Look.the-variants.{Refuse, Next, One, Two}
@@ -26,7 +26,7 @@ use Rattle.flow.specs.declared.scan.Scan.{Scan}
 use Rattle.flow.specs.declared.scan.Scan.the-variants.{Go, Stop}
 use Rattle.flow.proofs.Depth.{fault-none, if-bounds, trace-eq}
 use Rattle.flow.proofs.Stops.{isFault, faulty, Told, Tells, parts-told, trace-told}
-use Rattle.flow.proofs.Tests.{true-not-false, false-not-true}
+use Rattle.flow.proofs.Tests.{false-not-true}
 
 module _ (C : Code) (R : Rules) where
   append-here : (over : Bool) (a : Fault) (v : Visit) (m m′ : List Bool) (rest : Scanned) (us : List Visit)

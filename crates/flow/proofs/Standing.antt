@@ -1,5 +1,5 @@
 -- Scanning a part, own word by own word: what holds before each, and after each kind of word. Assumes nothing.
-use mathlib.Core.Path.{_≡_, refl, sym, ap, _∙_}
+use mathlib.Core.Path.{_≡_, refl, _∙_}
 use mathlib.Core.Bool.{Bool, true, false}
 use mathlib.Core.List.{List}
 use Prim.Native.Nat.{ℕ, _+_, _*_, _-_, _/_, _^_, _≤_, _<_}
@@ -7,7 +7,7 @@ use native.Mathlib.Omega.{arith}
 use lib.ListN.{length, getD, set, length-set}
 use Rattle.binary.specs.Addresses.{wordAddress}
 use Rattle.binary.specs.declared.WordAddress.{WordAddress}
-use Rattle.flow.specs.Inside.{rulesOf, partOf, lookOf, Weighs, scanned, scanOf, Covers, Left, LeftBoth, afterPart, beyond, Under, Small, deepest, deepOf, Asks, AsksBoth, packed, deepAt, Memory, goesOn, passedAgain, Ready, Scans, ScansBoth}
+use Rattle.flow.specs.Inside.{rulesOf, partOf, lookOf, Weighs, scanned, scanOf, Covers, LeftBoth, afterPart, beyond, Under, Small, deepest, deepOf, Asks, AsksBoth, packed, deepAt, Memory, goesOn, passedAgain, Ready, Scans, ScansBoth}
 use Rattle.flow.specs.Rules.{Code}
 use Rattle.flow.specs.declared.look.Allowed.{Allowed}
 use Rattle.flow.specs.declared.look.Look.the-variants.{Refuse, Next, One, Two}
@@ -17,7 +17,6 @@ use Rattle.flow.specs.declared.scan.Deep.{Deep}
 use Rattle.flow.specs.declared.scan.Outcome.{Outcome}
 use Rattle.flow.specs.declared.scan.Scan.the-variants.{Go, Stop}
 use Rattle.flow.proofs.Again.{goes-next}
-use Rattle.flow.proofs.Looks.{fits-at}
 use Rattle.flow.proofs.Passing.{covers-self, covers-trans, covers-set, Prefix, prefix-none, prefix-next, prefix-one, prefix-two, prefix-end}
 use Rattle.flow.proofs.Remembering.{memory-grows, memory-more, memory-next, Again, recalled-flow, recalled-left, recalled-both-flow, recalled-both-left, remembered, remembered-both, both-left, cost-is}
 use Rattle.flow.proofs.Replay.{scan-end, scan-27, scan-refuse, scan-next, scan-one-stop, scan-one, scan-two-stop, scan-two, both-stop, both-go}

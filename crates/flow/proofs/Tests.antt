@@ -5,7 +5,7 @@ use Prim.Native.Nat.{ℕ}
 use native.Mathlib.Omega.{arith}
 use Rattle.answer.specs.Faults.{faultIf, orElse}
 use Rattle.answer.specs.declared.Fault.{Fault}
-use Rattle.answer.specs.declared.Fault.the-variants.{Nothing, At}
+use Rattle.answer.specs.declared.Fault.the-variants.{Nothing}
 use Rattle.flow.specs.Rules.{pick}
 
 -- two constructors are not equal: `cc` finds the contradiction, and anything follows

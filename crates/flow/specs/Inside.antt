@@ -123,12 +123,12 @@ abbrev pub scanOf : Code → Allowed → Part → ℕ → List Bool → Scanned
 scanOf C a r t m = replay C (rulesOf a) (trace C (rulesOf a) (r .opens) (r .weight) (r .from .0) (r .to .0) .visits) t m
 
 -- more visits after some: none after a stop
-abbrev pub goOn : Code → Rules → Scan → List Bool → List Visit → Scanned
-goOn C R (scan.Go t) m us = replay C R us t m
-goOn C R (scan.Stop n q) m us = scanned (scan.Stop n q) m
+abbrev pub andAfter : Code → Rules → Scan → List Bool → List Visit → Scanned
+andAfter C R (scan.Go t) m us = replay C R us t m
+andAfter C R (scan.Stop n q) m us = scanned (scan.Stop n q) m
 
 abbrev pub replayThen : Code → Rules → Scanned → List Visit → Scanned
-replayThen C R s us = goOn C R (s .flow) (s .marks) us
+replayThen C R s us = andAfter C R (s .flow) (s .marks) us
 
 -- the part after another, with the same open, and the visits of both
 abbrev pub afterPart : Part → WordAddress → Part
@@ -137,17 +137,18 @@ afterPart r next = partOf (r .opens) (r .weight) (r .to .0) (next .0)
 abbrev pub scanBoth : Code → Allowed → Part → WordAddress → ℕ → List Bool → Scanned
 scanBoth C a r next t m = replayThen C (rulesOf a) (scanOf C a r t m) (trace C (rulesOf a) (r .opens) (r .weight) (r .to .0) (next .0) .visits)
 
--- what a region opens at most, without what is open around it; which must be among it
+-- the depths of a region without what is open around it. Over: what is open is within them
 abbrev pub beyond : Deep → Opens → Deep
 beyond d x = record { calls = d .calls - x .calls; ifs = d .ifs - x .ifs; loops = d .loops - x .loops }
 
 abbrev pub Over : Deep → Opens → Type 0
 Over d x = (x .calls ≤ d .calls) × (x .ifs ≤ d .ifs) × (x .loops ≤ d .loops)
 
--- no more than is allowed; and so much more than is open is allowed
+-- no more than is allowed
 abbrev pub Under : Allowed → Deep → Type 0
 Under a d = (d .calls ≤ a .calls) × (d .ifs ≤ a .ifs) × (d .loops ≤ a .loops)
 
+-- what is open, with so much more, is allowed
 abbrev pub Room : Allowed → Opens → Deep → Type 0
 Room a x d = (x .calls + d .calls ≤ a .calls) × (x .ifs + d .ifs ≤ a .ifs) × (x .loops + d .loops ≤ a .loops)
 
@@ -155,7 +156,8 @@ Room a x d = (x .calls + d .calls ≤ a .calls) × (x .ifs + d .ifs ≤ a .ifs) 
 pub record Covers (m m′ : List Bool) : Type 0 where
   pub marked : (q : ℕ) → getD m q false ≡ true → getD m′ q false ≡ true
 
--- the region from p to E costs k without the weight, opens d at most, and its words are marked in m: where it fits, visiting it adds weight × cost to the total and no mark
+-- the region from p to E, with a LOOP open in the same main or called region or with none, costs k without the weight, needs room for d at most, and its words are marked in m:
+-- where it fits, visiting it adds weight × cost to the total and no mark
 pub record Passes (C : Code) (a : Allowed) (looped : Bool) (p E k : ℕ) (d : Deep) (m : List Bool) : Type 0 where
   pub again : (x : Opens) (w t : ℕ) (m′ : List Bool) → x .looped ≡ looped → Room a x d → t + w * k ≤ a .most → Covers m m′ → scanOf C a (partOf x w p E) t m′ ≡ scanned (scan.Go (t + w * k)) m′
 
@@ -167,7 +169,7 @@ pub record PassesBoth (C : Code) (a : Allowed) (looped : Bool) (p q E k : ℕ) (
   pub before : Passes C a looped p q first d m
   pub after : Passes C a looped q E second d m
 
--- what a part that was passed leaves: its cost in the total, the most that was open in it, and that it is passed wherever it fits
+-- what a part that was passed leaves: its cost in the total, depths that are enough for it, and that it is passed wherever these fit
 pub record Left (C : Code) (a : Allowed) (r : Part) (before after : ℕ) (d : Deep) (m : List Bool) : Type 0 where
   pub cost : ℕ
   pub adds : after ≡ before + r .weight * cost
@@ -214,7 +216,7 @@ pub record AsksBoth (i : Control) (p : ℕ) (r : Part) (next : WordAddress) : Ty
   pub to : r .to .0 ≡ dst .0
   pub end : next .0 ≡ dst .0 + num
 
--- a jump at p whose target is ahead, and an own word of every region that holds it
+-- a jump at p whose target is ahead and, counted from the word after p, an own word up to every end past it
 pub record Reaches (C : Code) (p dst : ℕ) : Type 0 where
   pub ahead : p < dst
   pub own : (E : ℕ) → dst < E → has (ownWords C (p + 1) E) dst ≡ true
@@ -241,7 +243,7 @@ unpacked n = record { calls = n / 65536; ifs = n / 256 % 256; loops = n % 256 }
 abbrev pub deepAt : List ℕ → ℕ → Deep
 deepAt depths p = unpacked (getD depths p 0)
 
--- two arrays: the costs, 0 where nothing is remembered, and what is opened at most
+-- two arrays: the costs, 0 where nothing is remembered, and the depths. Of a jump whose target was found the cost is 1
 pub record Memory (C : Code) (a : Allowed) (m : List Bool) (costs depths : List ℕ) : Type 0 where
   pub costs-long : length costs ≡ 512
   pub depths-long : length depths ≡ 512
@@ -260,7 +262,7 @@ Small a = (a .calls < 256) × (a .ifs < 256) × (a .loops < 256)
 abbrev pub passedAgain : Part → ℕ → ℕ → Deep → Outcome
 passedAgain r t k d = record { scan = scan.Go (t + r .weight * k); deep = opened (r .opens) d }
 
--- whether a word without parts goes on, by what it is, what is remembered of it, and the region's end
+-- true where a visited word is known to go on without its tests: it has none, or it is a jump whose target was found and lies in the region. Else they are made
 abbrev pub goesOn : Control → ℕ → ℕ → Bool
 goesOn Unknown k E = true
 goesOn Plain k E = true

@@ -37,8 +37,8 @@ pub struct Part {
     pub to: WordAddress,
 }
 
-// What a visited word asks for: to be refused, to go on at the next word, or to visit one part or two and go on at a word after them. Of two, the second begins where
-// the first ends, has the same open, and ends at that word.
+// What a visited word asks for: to be refused, to go on at the next word, or to visit one part or two and then go on at a word. Of two, the second begins where the
+// first ends, has the same open, and ends at that word.
 pub enum Look {
     Refuse(u32),
     Next,

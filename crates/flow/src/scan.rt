@@ -20,7 +20,7 @@ pub enum Scan {
     Stop(u32, WordAddress),
 }
 
-// Counts of calls, IFs and LOOPs: the most that were open at once, those open around a region among them; or, where remembered, without those.
+// Counts of calls, IFs and LOOPs, each the most that were open at once: those open around a region among them, or, where remembered, without those.
 pub struct Deep {
     pub calls: u32,
     pub ifs: u32,
@@ -151,7 +151,7 @@ fn after_part(part: Part, next: WordAddress) -> Part
     }
 }
 
-// Whether a visited word without parts goes on, told without its tests: a word that has none; a jump whose target was found before and lies in the region.
+// True where a visited word is known to go on without its tests: it has none, or it is a jump whose target was found before and lies in the region. Else they are made.
 fn goes_on(control: Control, known: u32, end: u32) -> bool
     ensures { λ r. ⌜ r ≡ goesOn control known end ⌝ }
 {
@@ -168,8 +168,32 @@ fn goes_on(control: Control, known: u32, end: u32) -> bool
     }
 }
 
-// Visits the part that a LOOP or a CALL at `p` asks for. What its first visit found is remembered: where the same region fits again, its cost is added and it is not
-// visited again. It would meet no fault, and its words are marked.
+// Visits the part that a LOOP or a CALL at `p` asks for, and remembers what it found.
+fn descend(
+    words: &[u32],
+    allowed: Allowed,
+    marks: &mut [bool; 512],
+    costs: &mut [u32; 512],
+    depths: &mut [u32; 512],
+    p: u32,
+    part: Part,
+    total: u32,
+) -> Outcome
+    requires { ⌜ Ready (codeOf (now words) 0) allowed part (now marks) (now costs) (now depths) × Asks (codeOf (now words) 0 .control p) p part × (p < 512) ⌝ }
+    ensures { λ r. ⌜ Scans (codeOf (now (words .entry)) 0) allowed part total (now (marks .entry)) r (now (marks .exit)) (now (costs .exit)) (now (depths .exit)) ⌝ }
+{
+    let found = scan_part(words, allowed, marks, costs, depths, part, total);
+    let scan = found.scan;
+    let Scan::Go(after) = scan else {
+        return found;
+    };
+    let reached = beyond_of(found.deep, part.opens);
+    let cost = (after - total) / part.weight;
+    remember(costs, depths, p, cost, reached);
+    found
+}
+
+// Where what is remembered of that part fits, its cost is added and it is not visited again: it would meet no fault, and its words are marked.
 fn enter(
     words: &[u32],
     allowed: Allowed,
@@ -189,19 +213,12 @@ fn enter(
     if fits_again(allowed, part, total, cost, deep) {
         return passed_again(allowed, part, total, cost, deep);
     }
-    let found = scan_part(words, allowed, marks, costs, depths, part, total);
-    let scan = found.scan;
-    let Scan::Go(after) = scan else {
-        return found;
-    };
-    let reached = beyond_of(found.deep, part.opens);
-    let cost = (after - total) / part.weight;
-    remember(costs, depths, p, cost, reached);
-    found
+    descend(words, allowed, marks, costs, depths, p, part, total)
 }
 
-// The same for the two parts of an IF at `p`. They are remembered only where no LOOP is open in the main or called region: with one around, a BREAK passes in them.
-fn enter_both(
+// Visits the two parts that an IF at `p` asks for, and remembers what it found where no LOOP is open in the main or called region: with one around, a BREAK passes in
+// them. Nothing is lost by that: a LOOP's body is remembered whole.
+fn descend_both(
     words: &[u32],
     allowed: Allowed,
     marks: &mut [bool; 512],
@@ -215,12 +232,6 @@ fn enter_both(
     requires { ⌜ Ready (codeOf (now words) 0) allowed yes (now marks) (now costs) (now depths) × (next .0 ≤ length (now words)) × AsksBoth (codeOf (now words) 0 .control p) p yes next × (p < 512) ⌝ }
     ensures { λ r. ⌜ ScansBoth (codeOf (now (words .entry)) 0) allowed yes next total (now (marks .entry)) r (now (marks .exit)) (now (costs .exit)) (now (depths .exit)) ⌝ }
 {
-    let at = p as usize;
-    let cost = costs[at];
-    let deep = deep_at(depths, p);
-    if !yes.opens.looped & fits_again(allowed, yes, total, cost, deep) {
-        return passed_again(allowed, yes, total, cost, deep);
-    }
     let first = scan_part(words, allowed, marks, costs, depths, yes, total);
     let scan1 = first.scan;
     let Scan::Go(between) = scan1 else {
@@ -241,6 +252,30 @@ fn enter_both(
         scan: Scan::Go(after),
         deep: reached,
     }
+}
+
+// As `enter`, for an IF.
+fn enter_both(
+    words: &[u32],
+    allowed: Allowed,
+    marks: &mut [bool; 512],
+    costs: &mut [u32; 512],
+    depths: &mut [u32; 512],
+    p: u32,
+    yes: Part,
+    next: WordAddress,
+    total: u32,
+) -> Outcome
+    requires { ⌜ Ready (codeOf (now words) 0) allowed yes (now marks) (now costs) (now depths) × (next .0 ≤ length (now words)) × AsksBoth (codeOf (now words) 0 .control p) p yes next × (p < 512) ⌝ }
+    ensures { λ r. ⌜ ScansBoth (codeOf (now (words .entry)) 0) allowed yes next total (now (marks .entry)) r (now (marks .exit)) (now (costs .exit)) (now (depths .exit)) ⌝ }
+{
+    let at = p as usize;
+    let cost = costs[at];
+    let deep = deep_at(depths, p);
+    if !yes.opens.looped & fits_again(allowed, yes, total, cost, deep) {
+        return passed_again(allowed, yes, total, cost, deep);
+    }
+    descend_both(words, allowed, marks, costs, depths, p, yes, next, total)
 }
 
 // Counts, marks and tests each word of a region, and goes into the parts that it asks for. `total` is what was counted before. A jump's target is searched once,
@@ -278,6 +313,7 @@ pub(crate) fn scan_part(
                 return stop(number, p);
             }
             Look::Next => {
+                // A jump's target is known to be good from now on. Of EMIT and BREAK this is never read.
                 costs[at] = 1;
                 p += 1;
             }

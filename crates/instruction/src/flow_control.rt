@@ -32,7 +32,7 @@ pub enum Control {
     Jump(Condition, WordAddress, u32),
 }
 
-// The opcodes of control flow and output: 20h to 2Dh.
+// The opcodes of control flow and output: 20h to 2Dh. The one that is left is NOP.
 fn flow_control_of(op: u32, word: u32) -> Control
     requires { ⌜ (op ≡ field 26 6 word) × (0x20 ≤ op) × (op < 0x2e) ⌝ }
     ensures { λ r. ⌜ r ≡ controlOf word ⌝ }

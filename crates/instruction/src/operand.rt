@@ -11,7 +11,7 @@ pub enum DescriptorId {
     Unused,
 }
 
-// Goes by ranges of opcodes. DESC starts at bit 0, and that of MAD and MADI is shorter.
+// Goes by ranges of opcodes, as `control_of` does. DESC starts at bit 0, and that of MAD and MADI is shorter.
 pub fn descriptor_of(word: u32) -> DescriptorId
     ensures { λ r. ⌜ r ≡ descriptorOf word ⌝ }
 {

@@ -1,7 +1,7 @@
--- `scan::enter`, `scan::enter_both` and `scan::scan_part` meet their contracts: a region is scanned own word by own word, or remembered. Assumes nothing.
-use mathlib.Core.Path.{_≡_, refl, sym, ap, _∙_}
+-- `scan::descend`, `scan::enter`, the same of an IF, and `scan::scan_part` meet their contracts: a region is scanned own word by own word, or remembered. Assumes nothing.
+use mathlib.Core.Path.{refl, sym, ap, _∙_}
 use mathlib.Core.Bool.{not}
-use Prim.Native.Nat.{ℕ, _+_, _*_, _-_, _^_, _≤_, _<_, max}
+use Prim.Native.Nat.{ℕ, _+_, _*_, _-_, _<_, max}
 use native.Mathlib.Nat.{le-max-left, le-max-right, max-le}
 use native.Mathlib.Omega.{arith}
 use borrow.Author.Needs.{needs}
@@ -15,15 +15,21 @@ use Rattle.flow.proofs.Standing.{Standing, standing-first, standing-end
 use Rattle.flow.proofs.Tests.{both, not-true}
 use borrow.Fn.Kinds.{In}
 use borrow.Fn.PlainCycle.{Measures, is, falls, and}
+use Rattle.flow.proofs.scan.descend.Reads as descend
+use Rattle.flow.proofs.scan.descend.Kinds as descend-kinds
+use Rattle.flow.proofs.scan.+descend+descend_both+enter+enter_both+scan_part.Lts-descend as descend-lts
+use Rattle.flow.proofs.scan.descend_both.Reads as descend-both
+use Rattle.flow.proofs.scan.descend_both.Kinds as descend-both-kinds
+use Rattle.flow.proofs.scan.+descend+descend_both+enter+enter_both+scan_part.Lts-descend_both as descend-both-lts
 use Rattle.flow.proofs.scan.enter.Reads as enter
 use Rattle.flow.proofs.scan.enter.Kinds as enter-kinds
-use Rattle.flow.proofs.scan.+enter+enter_both+scan_part.Lts-enter as enter-lts
+use Rattle.flow.proofs.scan.+descend+descend_both+enter+enter_both+scan_part.Lts-enter as enter-lts
 use Rattle.flow.proofs.scan.enter_both.Reads as enter-both
 use Rattle.flow.proofs.scan.enter_both.Kinds as enter-both-kinds
-use Rattle.flow.proofs.scan.+enter+enter_both+scan_part.Lts-enter_both as enter-both-lts
+use Rattle.flow.proofs.scan.+descend+descend_both+enter+enter_both+scan_part.Lts-enter_both as enter-both-lts
 use Rattle.flow.proofs.scan.scan_part.Reads as scan-part
 use Rattle.flow.proofs.scan.scan_part.Kinds as scan-part-kinds
-use Rattle.flow.proofs.scan.+enter+enter_both+scan_part.Lts-scan_part as scan-part-lts
+use Rattle.flow.proofs.scan.+descend+descend_both+enter+enter_both+scan_part.Lts-scan_part as scan-part-lts
 use Rattle.flow.proofs.look.look_at.Reads as look-at-reads
 use Rattle.flow.proofs.scan.after_part.Reads as after-part-reads
 use Rattle.flow.proofs.scan.beyond_of.Reads as beyond-of-reads
@@ -36,21 +42,48 @@ use Rattle.flow.proofs.scan.passed_again.Reads as passed-again-reads
 use Rattle.flow.proofs.scan.remember.Reads as remember-reads
 use Rattle.flow.proofs.scan.stop.Reads as stop-reads
 use Rattle.instruction.proofs.control_of.Reads as control-of-reads
-use Rattle.flow.proofs.scan.+enter+enter_both+scan_part.{statement}
-use Rattle.flow.proofs.scan.+enter+enter_both+scan_part.Tie.{close}
+use Rattle.flow.proofs.scan.+descend+descend_both+enter+enter_both+scan_part.{statement}
+use Rattle.flow.proofs.scan.+descend+descend_both+enter+enter_both+scan_part.Tie.{close}
 
-abbrev μ-enter : Measures 4 enter-kinds.ps ℕ
-μ-enter κs a = let part = a .1 .1 .1 .1 .1 .1 .0 in 2 * size (codeOf (a .0 .now) 0) (rulesOf (a .1 .0)) (part .opens) (part .from .0) (part .to .0) + 1
+abbrev μ-descend : Measures 4 descend-kinds.ps ℕ
+μ-descend κs a = let part = a .1 .1 .1 .1 .1 .1 .0 in 3 * size (codeOf (a .0 .now) 0) (rulesOf (a .1 .0)) (part .opens) (part .from .0) (part .to .0) + 1
 
 -- of the larger of the two parts
+abbrev μ-descend-both : Measures 4 descend-both-kinds.ps ℕ
+μ-descend-both κs a =
+    let yes = a .1 .1 .1 .1 .1 .1 .0 in
+    let no = afterPart yes (a .1 .1 .1 .1 .1 .1 .1 .0) in
+    3 * max (size (codeOf (a .0 .now) 0) (rulesOf (a .1 .0)) (yes .opens) (yes .from .0) (yes .to .0)) (size (codeOf (a .0 .now) 0) (rulesOf (a .1 .0)) (no .opens) (no .from .0) (no .to .0)) + 1
+
+abbrev μ-enter : Measures 4 enter-kinds.ps ℕ
+μ-enter κs a = let part = a .1 .1 .1 .1 .1 .1 .0 in 3 * size (codeOf (a .0 .now) 0) (rulesOf (a .1 .0)) (part .opens) (part .from .0) (part .to .0) + 2
+
 abbrev μ-enter-both : Measures 4 enter-both-kinds.ps ℕ
 μ-enter-both κs a =
     let yes = a .1 .1 .1 .1 .1 .1 .0 in
     let no = afterPart yes (a .1 .1 .1 .1 .1 .1 .1 .0) in
-    2 * max (size (codeOf (a .0 .now) 0) (rulesOf (a .1 .0)) (yes .opens) (yes .from .0) (yes .to .0)) (size (codeOf (a .0 .now) 0) (rulesOf (a .1 .0)) (no .opens) (no .from .0) (no .to .0)) + 1
+    3 * max (size (codeOf (a .0 .now) 0) (rulesOf (a .1 .0)) (yes .opens) (yes .from .0) (yes .to .0)) (size (codeOf (a .0 .now) 0) (rulesOf (a .1 .0)) (no .opens) (no .from .0) (no .to .0)) + 2
 
 abbrev μ-scan-part : Measures 4 scan-part-kinds.ps ℕ
-μ-scan-part κs a = let part = a .1 .1 .1 .1 .1 .0 in 2 * size (codeOf (a .0 .now) 0) (rulesOf (a .1 .0)) (part .opens) (part .from .0) (part .to .0)
+μ-scan-part κs a = let part = a .1 .1 .1 .1 .1 .0 in 3 * size (codeOf (a .0 .now) 0) (rulesOf (a .1 .0)) (part .opens) (part .from .0) (part .to .0)
+
+abbrev descend-at : ℕ → In 4 descend-kinds.ps
+descend-at t = and 4 descend-kinds.ps (is 4 descend-kinds.ps μ-descend t) descend.Pre
+
+abbrev descend-below : ℕ → In 4 descend-kinds.ps
+descend-below t = and 4 descend-kinds.ps (falls 4 descend-kinds.ps _<_ μ-descend t) descend.Pre
+
+abbrev descend-both-at : ℕ → In 4 descend-both-kinds.ps
+descend-both-at t =
+    and 4 descend-both-kinds.ps (is 4 descend-both-kinds.ps μ-descend-both t) descend-both.Pre
+
+abbrev descend-both-below : ℕ → In 4 descend-both-kinds.ps
+descend-both-below t =
+    and
+    4
+    descend-both-kinds.ps
+    (falls 4 descend-both-kinds.ps _<_ μ-descend-both t)
+    descend-both.Pre
 
 abbrev enter-at : ℕ → In 4 enter-kinds.ps
 enter-at t = and 4 enter-kinds.ps (is 4 enter-kinds.ps μ-enter t) enter.Pre
@@ -73,17 +106,136 @@ abbrev scan-part-below : ℕ → In 4 scan-part-kinds.ps
 scan-part-below t =
     and 4 scan-part-kinds.ps (falls 4 scan-part-kinds.ps _<_ μ-scan-part t) scan-part.Pre
 
-abbrev enter-claims : ℕ → enter-lts.Claims
-enter-claims t = (deep-at-reads.Asked, deep-at-reads.Learnt, fits-again-reads.Asked, fits-again-reads.Learnt, passed-again-reads.Asked, passed-again-reads.Learnt, scan-part-below t, scan-part.Post, beyond-of-reads.Asked, beyond-of-reads.Learnt, remember-reads.Asked, remember-reads.Learnt)
+abbrev descend-claims : ℕ → descend-lts.Claims
+descend-claims t = (scan-part-below t, scan-part.Post, beyond-of-reads.Asked, beyond-of-reads.Learnt, remember-reads.Asked, remember-reads.Learnt)
 
-abbrev both-claims : ℕ → enter-both-lts.Claims
-both-claims t = (deep-at-reads.Asked, deep-at-reads.Learnt, fits-again-reads.Asked, fits-again-reads.Learnt, passed-again-reads.Asked, passed-again-reads.Learnt, scan-part-below t, scan-part.Post, after-part-reads.Asked, after-part-reads.Learnt, deepest-of-reads.Asked, deepest-of-reads.Learnt, beyond-of-reads.Asked, beyond-of-reads.Learnt, remember-reads.Asked, remember-reads.Learnt)
+abbrev descend-both-claims : ℕ → descend-both-lts.Claims
+descend-both-claims t = (scan-part-below t, scan-part.Post, after-part-reads.Asked, after-part-reads.Learnt, deepest-of-reads.Asked, deepest-of-reads.Learnt, beyond-of-reads.Asked, beyond-of-reads.Learnt, remember-reads.Asked, remember-reads.Learnt)
+
+abbrev enter-claims : ℕ → enter-lts.Claims
+enter-claims t = (deep-at-reads.Asked, deep-at-reads.Learnt, fits-again-reads.Asked, fits-again-reads.Learnt, passed-again-reads.Asked, passed-again-reads.Learnt, descend-below t, descend.Post)
+
+abbrev enter-both-claims : ℕ → enter-both-lts.Claims
+enter-both-claims t = (deep-at-reads.Asked, deep-at-reads.Learnt, fits-again-reads.Asked, fits-again-reads.Learnt, passed-again-reads.Asked, passed-again-reads.Learnt, descend-both-below t, descend-both.Post)
 
 abbrev claims : ℕ → scan-part-lts.Claims
 claims t = (deep-of-reads.Asked, deep-of-reads.Learnt, stop-reads.Asked, stop-reads.Learnt, control-of-reads.Asked, control-of-reads.Learnt, goes-on-reads.Asked, goes-on-reads.Learnt, look-at-reads.Asked, look-at-reads.Learnt, enter-below t, enter.Post, deepest-of-reads.Asked, deepest-of-reads.Learnt, enter-both-below t, enter-both.Post)
 
 max-lt : {a b k : ℕ} → a < k → b < k → max a b < k
 max-lt {a} {b} {k} h g = omega (arith, max-le {a = a} {b = b} {k = k - 1} (omega (arith, h)) (omega (arith, g)))
+
+descend-scan-part-requires : (t : ℕ) → descend-lts.Need-scan-part-requires (descend-claims t) (descend-at t) descend.Post
+descend-scan-part-requires t c κs =
+    let k = c .before .before .before .before in
+    (omega (arith, k .pre .0), k .pre .1 .0)
+
+descend-enum-known-scan : (t : ℕ) → descend-lts.Need-enum-known-scan (descend-claims t) (descend-at t) descend.Post
+descend-enum-known-scan t c = search needs
+
+descend-enum-told : (t : ℕ) → descend-lts.Need-enum-told (descend-claims t) (descend-at t) descend.Post
+descend-enum-told t c = search needs
+
+descend-returns : (t : ℕ) → descend-lts.Need-returns (descend-claims t) (descend-at t) descend.Post
+descend-returns t c = c .before .before .scan-part .ensures
+
+descend-beyond-of-requires : (t : ℕ) → descend-lts.Need-beyond-of-requires (descend-claims t) (descend-at t) descend.Post
+descend-beyond-of-requires t c κs = c .before .before .before .scan-part .ensures .left _ (c .before .scan .given .1) .over
+
+descend-sub-cost : (t : ℕ) → descend-lts.Need-sub-cost (descend-claims t) (descend-at t) descend.Post
+descend-sub-cost t c = omega (arith, c .before .before .before .before .scan-part .ensures .left _ (c .before .before .scan .given .1) .adds)
+
+descend-div-cost : (t : ℕ) → descend-lts.Need-div-cost (descend-claims t) (descend-at t) descend.Post
+descend-div-cost t c =
+    let k = c .before .before .before .before .before .before .before .before .before .before in
+    omega (arith, k .pre .1 .0 .weighs .0, heavy (k .args .part .opens .loops))
+
+descend-remember-requires : (t : ℕ) → descend-lts.Need-remember-requires (descend-claims t) (descend-at t) descend.Post
+descend-remember-requires t c κs =
+    let k = c .before .before .before .before .before .before .before .before .before .before .before .before in
+    let l = c .before .before .before .before .before .before .before .scan-part .ensures .left _ (c .before .before .before .before .before .scan .given .1) in
+    let s = few-beyond (k .args .allowed) _ (k .args .part .opens) (c .before .before .before .beyond-of .ensures) (k .pre .1 .0 .small) (l .under) in
+    (k .pre .1 .2, s .0, s .1, s .2)
+
+descend-returns-2 : (t : ℕ) → descend-lts.Need-returns-2 (descend-claims t) (descend-at t) descend.Post
+descend-returns-2 t c =
+    let k = c .before .before .before .before .before .before .before .before .before .before .before .before .before in
+    let C = codeOf (k .args .words .now) 0 in
+    let r = c .remember .ensures in
+    remembered-scans C (k .args .allowed) (k .args .part) (k .args .total) (k .args .p) (k .args .marks .now) (k .pre .1 .0) (k .pre .1 .1) (c .before .before .before .before .before .before .before .before .scan-part .ensures) (k .pre .1 .2) (omega (arith, k .pre .1 .0 .weighs .0, heavy (k .args .part .opens .loops))) (c .before .before .before .before .before .before .scan .given .1) refl (c .before .before .before .before .beyond-of .ensures) (r .0) (r .1)
+
+descend-both-scan-part-requires : (t : ℕ) → descend-both-lts.Need-scan-part-requires (descend-both-claims t) (descend-both-at t) descend-both.Post
+descend-both-scan-part-requires t c κs =
+    let k = c .before .before .before .before in
+    (omega (arith, k .pre .0, le-max-left (size (codeOf (k .args .words .now) 0) (rulesOf (k .args .allowed)) (k .args .yes .opens) (k .args .yes .from .0) (k .args .yes .to .0)) (size (codeOf (k .args .words .now) 0) (rulesOf (k .args .allowed)) (k .args .yes .opens) (k .args .yes .to .0) (k .args .next .0))), k .pre .1 .0)
+
+descend-both-enum-known-scan1 : (t : ℕ) → descend-both-lts.Need-enum-known-scan1 (descend-both-claims t) (descend-both-at t) descend-both.Post
+descend-both-enum-known-scan1 t c = search needs
+
+descend-both-enum-told : (t : ℕ) → descend-both-lts.Need-enum-told (descend-both-claims t) (descend-both-at t) descend-both.Post
+descend-both-enum-told t c = search needs
+
+descend-both-returns : (t : ℕ) → descend-both-lts.Need-returns (descend-both-claims t) (descend-both-at t) descend-both.Post
+descend-both-returns t c =
+    let k = c .before .before .before .before .before .before .before in
+    let C = codeOf (k .args .words .now) 0 in
+    both-stopped C (k .args .allowed) (k .args .yes) (k .args .next) (k .args .total) (k .args .p) (k .args .marks .now) (k .pre .1 .0) (k .pre .1 .2) (c .before .before .scan-part .ensures) (c .enum-told .given .1)
+
+descend-both-after-part-requires : (t : ℕ) → descend-both-lts.Need-after-part-requires (descend-both-claims t) (descend-both-at t) descend-both.Post
+descend-both-after-part-requires t c κs = search needs
+
+descend-both-scan-part-requires-2 : (t : ℕ) → descend-both-lts.Need-scan-part-requires-2 (descend-both-claims t) (descend-both-at t) descend-both.Post
+descend-both-scan-part-requires-2 t c κs =
+    let k = c .before .before .before .before .before .before .before .before .before .before .before .before in
+    rw (c .before .before .before .after-part .ensures) (omega (arith, k .pre .0, le-max-right (size (codeOf (k .args .words .now) 0) (rulesOf (k .args .allowed)) (k .args .yes .opens) (k .args .yes .from .0) (k .args .yes .to .0)) (size (codeOf (k .args .words .now) 0) (rulesOf (k .args .allowed)) (k .args .yes .opens) (k .args .yes .to .0) (k .args .next .0))), ready-second (k .args .next) (k .pre .1 .0) (c .before .before .before .before .before .before .before .scan-part .ensures) (k .pre .1 .1))
+
+descend-both-enum-known-scan2 : (t : ℕ) → descend-both-lts.Need-enum-known-scan2 (descend-both-claims t) (descend-both-at t) descend-both.Post
+descend-both-enum-known-scan2 t c = search needs
+
+descend-both-enum-told-2 : (t : ℕ) → descend-both-lts.Need-enum-told-2 (descend-both-claims t) (descend-both-at t) descend-both.Post
+descend-both-enum-told-2 t c = search needs
+
+descend-both-returns-2 : (t : ℕ) → descend-both-lts.Need-returns-2 (descend-both-claims t) (descend-both-at t) descend-both.Post
+descend-both-returns-2 t c =
+    let k = c .before .before .before .before .before .before .before .before .before .before .before .before .before .before .before in
+    let C = codeOf (k .args .words .now) 0 in
+    both-stopped-2 C (k .args .allowed) (k .args .yes) (k .args .next) (k .args .total) (k .args .p) (k .args .marks .now) (k .pre .1 .0) (k .pre .1 .2) (c .before .before .before .before .before .before .before .before .before .before .scan-part .ensures) (c .before .before .before .before .before .before .before .before .scan1 .given .1) (rw (c .before .before .before .before .before .before .after-part .ensures) at (c .before .before .scan-part2 .ensures)) (c .enum-told2 .given .1)
+
+descend-both-deepest-of-requires : (t : ℕ) → descend-both-lts.Need-deepest-of-requires (descend-both-claims t) (descend-both-at t) descend-both.Post
+descend-both-deepest-of-requires t c κs = search needs
+
+descend-both-sub-cost : (t : ℕ) → descend-both-lts.Need-sub-cost (descend-both-claims t) (descend-both-at t) descend-both.Post
+descend-both-sub-cost t c = omega (arith, c .before .before .before .before .before .before .before .before .before .before .before .before .before .before .scan-part .ensures .left _ (c .before .before .before .before .before .before .before .before .before .before .before .before .scan1 .given .1) .adds, (rw (c .before .before .before .before .before .before .before .before .before .before .after-part .ensures) at (c .before .before .before .before .before .before .scan-part2 .ensures)) .left _ (c .before .before .before .before .scan2 .given .1) .adds)
+
+descend-both-div-cost : (t : ℕ) → descend-both-lts.Need-div-cost (descend-both-claims t) (descend-both-at t) descend-both.Post
+descend-both-div-cost t c =
+    let k = c .before .before .before .before .before .before .before .before .before .before .before .before .before .before .before .before .before .before .before .before in
+    omega (arith, k .pre .1 .0 .weighs .0, heavy (k .args .yes .opens .loops))
+
+descend-both-beyond-of-requires : (t : ℕ) → descend-both-lts.Need-beyond-of-requires (descend-both-claims t) (descend-both-at t) descend-both.Post
+descend-both-beyond-of-requires t c κs =
+    let k = c .before .before .before .before .before .before .before .before .before .before .before .before .before .before .before .before .before .before .before .before .before .before in
+    let C = codeOf (k .args .words .now) 0 in
+    left-both C (k .args .allowed) (k .args .yes) (k .args .next) (k .args .total) (k .args .p) (k .args .marks .now) (k .pre .1 .0) (k .pre .1 .2) (c .before .before .before .before .before .before .before .before .before .before .before .before .before .before .before .before .before .scan-part .ensures) (c .before .before .before .before .before .before .before .before .before .before .before .before .before .before .before .scan1 .given .1) (rw (c .before .before .before .before .before .before .before .before .before .before .before .before .before .after-part .ensures) at (c .before .before .before .before .before .before .before .before .before .scan-part2 .ensures)) (c .before .before .before .before .before .before .before .scan2 .given .1) (c .before .before .before .before .before .deepest-of .ensures) .over
+
+descend-both-remember-requires : (t : ℕ) → descend-both-lts.Need-remember-requires (descend-both-claims t) (descend-both-at t) descend-both.Post
+descend-both-remember-requires t c κs =
+    let k = c .before .before .before .before .before .before .before .before .before .before .before .before .before .before .before .before .before .before .before .before .before .before .before in
+    let C = codeOf (k .args .words .now) 0 in
+    let s = few-beyond (k .args .allowed) _ (k .args .yes .opens) (c .beyond-of .ensures) (k .pre .1 .0 .small) (left-both C (k .args .allowed) (k .args .yes) (k .args .next) (k .args .total) (k .args .p) (k .args .marks .now) (k .pre .1 .0) (k .pre .1 .2) (c .before .before .before .before .before .before .before .before .before .before .before .before .before .before .before .before .before .before .scan-part .ensures) (c .before .before .before .before .before .before .before .before .before .before .before .before .before .before .before .before .scan1 .given .1) (rw (c .before .before .before .before .before .before .before .before .before .before .before .before .before .before .after-part .ensures) at (c .before .before .before .before .before .before .before .before .before .before .scan-part2 .ensures)) (c .before .before .before .before .before .before .before .before .scan2 .given .1) (c .before .before .before .before .before .before .deepest-of .ensures) .under) in
+    (k .pre .1 .3, s .0, s .1, s .2)
+
+descend-both-returns-3 : (t : ℕ) → descend-both-lts.Need-returns-3 (descend-both-claims t) (descend-both-at t) descend-both.Post
+descend-both-returns-3 t c =
+    let k = c .before .before .before .before .before .before .before .before .before .before .before .before .before .before .before .before .before .before .before .before .before .before .before .before in
+    let C = codeOf (k .args .words .now) 0 in
+    let r = c .remember .ensures in
+    both-remembered C (k .args .allowed) (k .args .yes) (k .args .next) (k .args .total) (k .args .p) (k .args .marks .now) (k .pre .1 .0) (k .pre .1 .2) (c .before .before .before .before .before .before .before .before .before .before .before .before .before .before .before .before .before .before .before .scan-part .ensures) (c .before .before .before .before .before .before .before .before .before .before .before .before .before .before .before .before .before .scan1 .given .1) (rw (c .before .before .before .before .before .before .before .before .before .before .before .before .before .before .before .after-part .ensures) at (c .before .before .before .before .before .before .before .before .before .before .before .scan-part2 .ensures)) (c .before .before .before .before .before .before .before .before .before .scan2 .given .1) (c .before .before .before .before .before .before .before .deepest-of .ensures) refl refl (not-true _ (c .before .before .before .before .before .if1 .taken)) (k .pre .1 .3) (omega (arith, k .pre .1 .0 .weighs .0, heavy (k .args .yes .opens .loops))) refl (c .before .beyond-of .ensures) (r .0) (r .1)
+
+descend-both-returns-4 : (t : ℕ) → descend-both-lts.Need-returns-4 (descend-both-claims t) (descend-both-at t) descend-both.Post
+descend-both-returns-4 t c =
+    let k = c .before .before .before .before .before .before .before .before .before .before .before .before .before .before .before .before .before .before .before in
+    let C = codeOf (k .args .words .now) 0 in
+    both-passed C (k .args .allowed) (k .args .yes) (k .args .next) (k .args .total) (k .args .p) (k .args .marks .now) (k .pre .1 .0) (k .pre .1 .2) (c .before .before .before .before .before .before .before .before .before .before .before .before .before .before .scan-part .ensures) (c .before .before .before .before .before .before .before .before .before .before .before .before .scan1 .given .1) (rw (c .before .before .before .before .before .before .before .before .before .before .after-part .ensures) at (c .before .before .before .before .before .before .scan-part2 .ensures)) (c .before .before .before .before .scan2 .given .1) (c .before .before .deepest-of .ensures) refl refl
 
 enter-mul-cost : (t : ℕ) → enter-lts.Need-mul-cost (enter-claims t) (enter-at t) enter.Post
 enter-mul-cost t c = search needs
@@ -114,147 +266,50 @@ enter-returns t c =
     let g = fits-known C (k .args .allowed) (k .args .part) (k .args .total) (getD (k .args .costs .now) (k .args .p) 0) (c .before .before .before .deep-at .result) (k .args .marks .now) (sym (c .before .before .fits-again .ensures) ∙ c .before .if1 .taken) in
     recalled-scans C (k .args .allowed) (k .args .part) (k .args .total) (k .args .p) (k .args .marks .now) (k .pre .1 .0) (k .pre .1 .1) (rw d at g) (c .passed-again .ensures ∙ ap (λ y. passedAgain (k .args .part) (k .args .total) (getD (k .args .costs .now) (k .args .p) 0) y) d)
 
-enter-scan-part-requires : (t : ℕ) → enter-lts.Need-scan-part-requires (enter-claims t) (enter-at t) enter.Post
-enter-scan-part-requires t c κs =
+enter-descend-requires : (t : ℕ) → enter-lts.Need-descend-requires (enter-claims t) (enter-at t) enter.Post
+enter-descend-requires t c κs =
     let k = c .before .before .before .before .before .before .before .before .before in
-    (omega (arith, k .pre .0), k .pre .1 .0)
-
-enter-enum-known-scan : (t : ℕ) → enter-lts.Need-enum-known-scan (enter-claims t) (enter-at t) enter.Post
-enter-enum-known-scan t c = search needs
-
-enter-enum-told : (t : ℕ) → enter-lts.Need-enum-told (enter-claims t) (enter-at t) enter.Post
-enter-enum-told t c = search needs
+    (omega (arith, k .pre .0), k .pre .1)
 
 enter-returns-2 : (t : ℕ) → enter-lts.Need-returns-2 (enter-claims t) (enter-at t) enter.Post
-enter-returns-2 t c = c .before .before .scan-part .ensures
+enter-returns-2 t c = c .descend .ensures
 
-enter-beyond-of-requires : (t : ℕ) → enter-lts.Need-beyond-of-requires (enter-claims t) (enter-at t) enter.Post
-enter-beyond-of-requires t c κs = c .before .before .before .scan-part .ensures .left _ (c .before .scan .given .1) .over
+enter-both-mul-cost : (t : ℕ) → enter-both-lts.Need-mul-cost (enter-both-claims t) (enter-both-at t) enter-both.Post
+enter-both-mul-cost t c = search needs
 
-enter-sub-cost : (t : ℕ) → enter-lts.Need-sub-cost (enter-claims t) (enter-at t) enter.Post
-enter-sub-cost t c = omega (arith, c .before .before .before .before .scan-part .ensures .left _ (c .before .before .scan .given .1) .adds)
+enter-both-element-copy-out-cost : (t : ℕ) → enter-both-lts.Need-element-copy-out-cost (enter-both-claims t) (enter-both-at t) enter-both.Post
+enter-both-element-copy-out-cost t c = omega (arith, c .before .pre .1 .3)
 
-enter-div-cost : (t : ℕ) → enter-lts.Need-div-cost (enter-claims t) (enter-at t) enter.Post
-enter-div-cost t c =
-    let k = c .before .before .before .before .before .before .before .before .before .before .before .before .before .before .before in
-    omega (arith, k .pre .1 .0 .weighs .0, heavy (k .args .part .opens .loops))
+enter-both-deep-at-requires : (t : ℕ) → enter-both-lts.Need-deep-at-requires (enter-both-claims t) (enter-both-at t) enter-both.Post
+enter-both-deep-at-requires t c κs = c .before .before .before .pre .1 .3
 
-enter-remember-requires : (t : ℕ) → enter-lts.Need-remember-requires (enter-claims t) (enter-at t) enter.Post
-enter-remember-requires t c κs =
-    let k = c .before .before .before .before .before .before .before .before .before .before .before .before .before .before .before .before .before in
-    let l = c .before .before .before .before .before .before .before .scan-part .ensures .left _ (c .before .before .before .before .before .scan .given .1) in
-    let s = few-beyond (k .args .allowed) _ (k .args .part .opens) (c .before .before .before .beyond-of .ensures) (k .pre .1 .0 .small) (l .under) in
-    (k .pre .1 .2, s .0, s .1, s .2)
-
-enter-returns-3 : (t : ℕ) → enter-lts.Need-returns-3 (enter-claims t) (enter-at t) enter.Post
-enter-returns-3 t c =
-    let k = c .before .before .before .before .before .before .before .before .before .before .before .before .before .before .before .before .before .before in
-    let C = codeOf (k .args .words .now) 0 in
-    let r = c .remember .ensures in
-    remembered-scans C (k .args .allowed) (k .args .part) (k .args .total) (k .args .p) (k .args .marks .now) (k .pre .1 .0) (k .pre .1 .1) (c .before .before .before .before .before .before .before .before .scan-part .ensures) (k .pre .1 .2) (omega (arith, k .pre .1 .0 .weighs .0, heavy (k .args .part .opens .loops))) (c .before .before .before .before .before .before .scan .given .1) refl (c .before .before .before .before .beyond-of .ensures) (r .0) (r .1)
-
-both-mul-cost : (t : ℕ) → enter-both-lts.Need-mul-cost (both-claims t) (enter-both-at t) enter-both.Post
-both-mul-cost t c = search needs
-
-both-element-copy-out-cost : (t : ℕ) → enter-both-lts.Need-element-copy-out-cost (both-claims t) (enter-both-at t) enter-both.Post
-both-element-copy-out-cost t c = omega (arith, c .before .pre .1 .3)
-
-both-deep-at-requires : (t : ℕ) → enter-both-lts.Need-deep-at-requires (both-claims t) (enter-both-at t) enter-both.Post
-both-deep-at-requires t c κs = c .before .before .before .pre .1 .3
-
-both-fits-again-requires : (t : ℕ) → enter-both-lts.Need-fits-again-requires (both-claims t) (enter-both-at t) enter-both.Post
-both-fits-again-requires t c κs =
+enter-both-fits-again-requires : (t : ℕ) → enter-both-lts.Need-fits-again-requires (enter-both-claims t) (enter-both-at t) enter-both.Post
+enter-both-fits-again-requires t c κs =
     let k = c .before .before .before .before .before in
     omega (arith, k .pre .1 .0 .weighs .0, light (k .args .yes .opens .loops) (omega (arith, k .pre .1 .0 .weighs)))
 
-both-passed-again-requires : (t : ℕ) → enter-both-lts.Need-passed-again-requires (both-claims t) (enter-both-at t) enter-both.Post
-both-passed-again-requires t c κs =
+enter-both-passed-again-requires : (t : ℕ) → enter-both-lts.Need-passed-again-requires (enter-both-claims t) (enter-both-at t) enter-both.Post
+enter-both-passed-again-requires t c κs =
     let k = c .before .before .before .before .before .before .before in
     let C = codeOf (k .args .words .now) 0 in
     let g = fits-known C (k .args .allowed) (k .args .yes) (k .args .total) (getD (k .args .costs .now) (k .args .p) 0) (c .before .before .before .deep-at .result) (k .args .marks .now) (sym (c .before .fits-again .ensures) ∙ both (not (k .args .yes .opens .looped)) (c .before .fits-again .result) (c .if1 .taken) .1) in
     (g .room, g .fits)
 
-both-returns : (t : ℕ) → enter-both-lts.Need-returns (both-claims t) (enter-both-at t) enter-both.Post
-both-returns t c =
+enter-both-returns : (t : ℕ) → enter-both-lts.Need-returns (enter-both-claims t) (enter-both-at t) enter-both.Post
+enter-both-returns t c =
     let k = c .before .before .before .before .before .before .before .before in
     let C = codeOf (k .args .words .now) 0 in
     let d = c .before .before .before .before .deep-at .ensures in
     let g = fits-known C (k .args .allowed) (k .args .yes) (k .args .total) (getD (k .args .costs .now) (k .args .p) 0) (c .before .before .before .before .deep-at .result) (k .args .marks .now) (sym (c .before .before .fits-again .ensures) ∙ both (not (k .args .yes .opens .looped)) (c .before .before .fits-again .result) (c .before .if1 .taken) .1) in
     recalled-both-scans C (k .args .allowed) (k .args .yes) (k .args .next) (k .args .total) (k .args .p) (k .args .marks .now) (k .pre .1 .0) (k .pre .1 .2) (not-true _ (both (not (k .args .yes .opens .looped)) (c .before .before .fits-again .result) (c .before .if1 .taken) .0)) (rw d at g) (c .passed-again .ensures ∙ ap (λ y. passedAgain (k .args .yes) (k .args .total) (getD (k .args .costs .now) (k .args .p) 0) y) d)
 
-both-scan-part-requires : (t : ℕ) → enter-both-lts.Need-scan-part-requires (both-claims t) (enter-both-at t) enter-both.Post
-both-scan-part-requires t c κs =
+enter-both-descend-both-requires : (t : ℕ) → enter-both-lts.Need-descend-both-requires (enter-both-claims t) (enter-both-at t) enter-both.Post
+enter-both-descend-both-requires t c κs =
     let k = c .before .before .before .before .before .before .before .before .before .before in
-    (omega (arith, k .pre .0, le-max-left (size (codeOf (k .args .words .now) 0) (rulesOf (k .args .allowed)) (k .args .yes .opens) (k .args .yes .from .0) (k .args .yes .to .0)) (size (codeOf (k .args .words .now) 0) (rulesOf (k .args .allowed)) (k .args .yes .opens) (k .args .yes .to .0) (k .args .next .0))), k .pre .1 .0)
+    (omega (arith, k .pre .0), k .pre .1)
 
-both-enum-known-scan1 : (t : ℕ) → enter-both-lts.Need-enum-known-scan1 (both-claims t) (enter-both-at t) enter-both.Post
-both-enum-known-scan1 t c = search needs
-
-both-enum-told : (t : ℕ) → enter-both-lts.Need-enum-told (both-claims t) (enter-both-at t) enter-both.Post
-both-enum-told t c = search needs
-
-both-returns-2 : (t : ℕ) → enter-both-lts.Need-returns-2 (both-claims t) (enter-both-at t) enter-both.Post
-both-returns-2 t c =
-    let k = c .before .before .before .before .before .before .before .before .before .before .before .before .before in
-    let C = codeOf (k .args .words .now) 0 in
-    both-stopped C (k .args .allowed) (k .args .yes) (k .args .next) (k .args .total) (k .args .p) (k .args .marks .now) (k .pre .1 .0) (k .pre .1 .2) (c .before .before .scan-part .ensures) (c .enum-told .given .1)
-
-both-after-part-requires : (t : ℕ) → enter-both-lts.Need-after-part-requires (both-claims t) (enter-both-at t) enter-both.Post
-both-after-part-requires t c κs = search needs
-
-both-scan-part-requires-2 : (t : ℕ) → enter-both-lts.Need-scan-part-requires-2 (both-claims t) (enter-both-at t) enter-both.Post
-both-scan-part-requires-2 t c κs =
-    let k = c .before .before .before .before .before .before .before .before .before .before .before .before .before .before .before .before .before .before in
-    rw (c .before .before .before .after-part .ensures) (omega (arith, k .pre .0, le-max-right (size (codeOf (k .args .words .now) 0) (rulesOf (k .args .allowed)) (k .args .yes .opens) (k .args .yes .from .0) (k .args .yes .to .0)) (size (codeOf (k .args .words .now) 0) (rulesOf (k .args .allowed)) (k .args .yes .opens) (k .args .yes .to .0) (k .args .next .0))), ready-second (k .args .next) (k .pre .1 .0) (c .before .before .before .before .before .before .before .scan-part .ensures) (k .pre .1 .1))
-
-both-enum-known-scan2 : (t : ℕ) → enter-both-lts.Need-enum-known-scan2 (both-claims t) (enter-both-at t) enter-both.Post
-both-enum-known-scan2 t c = search needs
-
-both-enum-told-2 : (t : ℕ) → enter-both-lts.Need-enum-told-2 (both-claims t) (enter-both-at t) enter-both.Post
-both-enum-told-2 t c = search needs
-
-both-returns-3 : (t : ℕ) → enter-both-lts.Need-returns-3 (both-claims t) (enter-both-at t) enter-both.Post
-both-returns-3 t c =
-    let k = c .before .before .before .before .before .before .before .before .before .before .before .before .before .before .before .before .before .before .before .before .before in
-    let C = codeOf (k .args .words .now) 0 in
-    both-stopped-2 C (k .args .allowed) (k .args .yes) (k .args .next) (k .args .total) (k .args .p) (k .args .marks .now) (k .pre .1 .0) (k .pre .1 .2) (c .before .before .before .before .before .before .before .before .before .before .scan-part .ensures) (c .before .before .before .before .before .before .before .before .scan1 .given .1) (rw (c .before .before .before .before .before .before .after-part .ensures) at (c .before .before .scan-part2 .ensures)) (c .enum-told2 .given .1)
-
-both-deepest-of-requires : (t : ℕ) → enter-both-lts.Need-deepest-of-requires (both-claims t) (enter-both-at t) enter-both.Post
-both-deepest-of-requires t c κs = search needs
-
-both-sub-cost : (t : ℕ) → enter-both-lts.Need-sub-cost (both-claims t) (enter-both-at t) enter-both.Post
-both-sub-cost t c = omega (arith, c .before .before .before .before .before .before .before .before .before .before .before .before .before .before .scan-part .ensures .left _ (c .before .before .before .before .before .before .before .before .before .before .before .before .scan1 .given .1) .adds, (rw (c .before .before .before .before .before .before .before .before .before .before .after-part .ensures) at (c .before .before .before .before .before .before .scan-part2 .ensures)) .left _ (c .before .before .before .before .scan2 .given .1) .adds)
-
-both-div-cost : (t : ℕ) → enter-both-lts.Need-div-cost (both-claims t) (enter-both-at t) enter-both.Post
-both-div-cost t c =
-    let k = c .before .before .before .before .before .before .before .before .before .before .before .before .before .before .before .before .before .before .before .before .before .before .before .before .before .before in
-    omega (arith, k .pre .1 .0 .weighs .0, heavy (k .args .yes .opens .loops))
-
-both-beyond-of-requires : (t : ℕ) → enter-both-lts.Need-beyond-of-requires (both-claims t) (enter-both-at t) enter-both.Post
-both-beyond-of-requires t c κs =
-    let k = c .before .before .before .before .before .before .before .before .before .before .before .before .before .before .before .before .before .before .before .before .before .before .before .before .before .before .before .before in
-    let C = codeOf (k .args .words .now) 0 in
-    left-both C (k .args .allowed) (k .args .yes) (k .args .next) (k .args .total) (k .args .p) (k .args .marks .now) (k .pre .1 .0) (k .pre .1 .2) (c .before .before .before .before .before .before .before .before .before .before .before .before .before .before .before .before .before .scan-part .ensures) (c .before .before .before .before .before .before .before .before .before .before .before .before .before .before .before .scan1 .given .1) (rw (c .before .before .before .before .before .before .before .before .before .before .before .before .before .after-part .ensures) at (c .before .before .before .before .before .before .before .before .before .scan-part2 .ensures)) (c .before .before .before .before .before .before .before .scan2 .given .1) (c .before .before .before .before .before .deepest-of .ensures) .over
-
-both-remember-requires : (t : ℕ) → enter-both-lts.Need-remember-requires (both-claims t) (enter-both-at t) enter-both.Post
-both-remember-requires t c κs =
-    let k = c .before .before .before .before .before .before .before .before .before .before .before .before .before .before .before .before .before .before .before .before .before .before .before .before .before .before .before .before .before in
-    let C = codeOf (k .args .words .now) 0 in
-    let s = few-beyond (k .args .allowed) _ (k .args .yes .opens) (c .beyond-of .ensures) (k .pre .1 .0 .small) (left-both C (k .args .allowed) (k .args .yes) (k .args .next) (k .args .total) (k .args .p) (k .args .marks .now) (k .pre .1 .0) (k .pre .1 .2) (c .before .before .before .before .before .before .before .before .before .before .before .before .before .before .before .before .before .before .scan-part .ensures) (c .before .before .before .before .before .before .before .before .before .before .before .before .before .before .before .before .scan1 .given .1) (rw (c .before .before .before .before .before .before .before .before .before .before .before .before .before .before .after-part .ensures) at (c .before .before .before .before .before .before .before .before .before .before .scan-part2 .ensures)) (c .before .before .before .before .before .before .before .before .scan2 .given .1) (c .before .before .before .before .before .before .deepest-of .ensures) .under) in
-    (k .pre .1 .3, s .0, s .1, s .2)
-
-both-returns-4 : (t : ℕ) → enter-both-lts.Need-returns-4 (both-claims t) (enter-both-at t) enter-both.Post
-both-returns-4 t c =
-    let k = c .before .before .before .before .before .before .before .before .before .before .before .before .before .before .before .before .before .before .before .before .before .before .before .before .before .before .before .before .before .before in
-    let C = codeOf (k .args .words .now) 0 in
-    let r = c .remember .ensures in
-    both-remembered C (k .args .allowed) (k .args .yes) (k .args .next) (k .args .total) (k .args .p) (k .args .marks .now) (k .pre .1 .0) (k .pre .1 .2) (c .before .before .before .before .before .before .before .before .before .before .before .before .before .before .before .before .before .before .before .scan-part .ensures) (c .before .before .before .before .before .before .before .before .before .before .before .before .before .before .before .before .before .scan1 .given .1) (rw (c .before .before .before .before .before .before .before .before .before .before .before .before .before .before .before .after-part .ensures) at (c .before .before .before .before .before .before .before .before .before .before .before .scan-part2 .ensures)) (c .before .before .before .before .before .before .before .before .before .scan2 .given .1) (c .before .before .before .before .before .before .before .deepest-of .ensures) refl refl (not-true _ (c .before .before .before .before .before .if2 .taken)) (k .pre .1 .3) (omega (arith, k .pre .1 .0 .weighs .0, heavy (k .args .yes .opens .loops))) refl (c .before .beyond-of .ensures) (r .0) (r .1)
-
-both-returns-5 : (t : ℕ) → enter-both-lts.Need-returns-5 (both-claims t) (enter-both-at t) enter-both.Post
-both-returns-5 t c =
-    let k = c .before .before .before .before .before .before .before .before .before .before .before .before .before .before .before .before .before .before .before .before .before .before .before .before .before in
-    let C = codeOf (k .args .words .now) 0 in
-    both-passed C (k .args .allowed) (k .args .yes) (k .args .next) (k .args .total) (k .args .p) (k .args .marks .now) (k .pre .1 .0) (k .pre .1 .2) (c .before .before .before .before .before .before .before .before .before .before .before .before .before .before .scan-part .ensures) (c .before .before .before .before .before .before .before .before .before .before .before .before .scan1 .given .1) (rw (c .before .before .before .before .before .before .before .before .before .before .after-part .ensures) at (c .before .before .before .before .before .before .scan-part2 .ensures)) (c .before .before .before .before .scan2 .given .1) (c .before .before .deepest-of .ensures) refl refl
+enter-both-returns-2 : (t : ℕ) → enter-both-lts.Need-returns-2 (enter-both-claims t) (enter-both-at t) enter-both.Post
+enter-both-returns-2 t c = c .descend-both .ensures
 
 abbrev Inv-loop : scan-part-lts.InvT-loop
 Inv-loop words allowed marks₀ costs₀ depths₀ part total end p₀ t₀ deep₀ marks costs depths p t deep = Standing (codeOf words 0) allowed part total marks₀ marks costs depths p t deep
@@ -482,8 +537,35 @@ returns-5 t c =
     let C = codeOf (k .args .words .now) 0 in
     standing-end C (k .args .allowed) (k .args .part) (k .args .total) (k .args .marks .now) (k .pre .1 .within) (k .pre .1 .few) (q .inv) (c .loop-test .left) refl refl
 
-pub +enter+enter-both+scan-part-spec : {M : Type 1} → statement M
-+enter+enter-both+scan-part-spec = close μ-enter μ-enter-both μ-scan-part
+pub +descend+descend-both+enter+enter-both+scan-part-spec : {M : Type 1} → statement M
++descend+descend-both+enter+enter-both+scan-part-spec = close μ-descend μ-descend-both μ-enter μ-enter-both μ-scan-part
+    (λ t. descend-lts.spec (descend-claims t) (descend-at t) descend.Post
+    (descend-scan-part-requires t)
+    (descend-enum-known-scan t)
+    (descend-enum-told t)
+    (descend-returns t)
+    (descend-beyond-of-requires t)
+    (descend-sub-cost t)
+    (descend-div-cost t)
+    (descend-remember-requires t)
+    (descend-returns-2 t))
+    (λ t. descend-both-lts.spec (descend-both-claims t) (descend-both-at t) descend-both.Post
+    (descend-both-scan-part-requires t)
+    (descend-both-enum-known-scan1 t)
+    (descend-both-enum-told t)
+    (descend-both-returns t)
+    (descend-both-after-part-requires t)
+    (descend-both-scan-part-requires-2 t)
+    (descend-both-enum-known-scan2 t)
+    (descend-both-enum-told-2 t)
+    (descend-both-returns-2 t)
+    (descend-both-deepest-of-requires t)
+    (descend-both-sub-cost t)
+    (descend-both-div-cost t)
+    (descend-both-beyond-of-requires t)
+    (descend-both-remember-requires t)
+    (descend-both-returns-3 t)
+    (descend-both-returns-4 t))
     (λ t. enter-lts.spec (enter-claims t) (enter-at t) enter.Post
     (enter-mul-cost t)
     (enter-element-copy-out-cost t)
@@ -491,38 +573,17 @@ pub +enter+enter-both+scan-part-spec : {M : Type 1} → statement M
     (enter-fits-again-requires t)
     (enter-passed-again-requires t)
     (enter-returns t)
-    (enter-scan-part-requires t)
-    (enter-enum-known-scan t)
-    (enter-enum-told t)
-    (enter-returns-2 t)
-    (enter-beyond-of-requires t)
-    (enter-sub-cost t)
-    (enter-div-cost t)
-    (enter-remember-requires t)
-    (enter-returns-3 t))
-    (λ t. enter-both-lts.spec (both-claims t) (enter-both-at t) enter-both.Post
-    (both-mul-cost t)
-    (both-element-copy-out-cost t)
-    (both-deep-at-requires t)
-    (both-fits-again-requires t)
-    (both-passed-again-requires t)
-    (both-returns t)
-    (both-scan-part-requires t)
-    (both-enum-known-scan1 t)
-    (both-enum-told t)
-    (both-returns-2 t)
-    (both-after-part-requires t)
-    (both-scan-part-requires-2 t)
-    (both-enum-known-scan2 t)
-    (both-enum-told-2 t)
-    (both-returns-3 t)
-    (both-deepest-of-requires t)
-    (both-sub-cost t)
-    (both-div-cost t)
-    (both-beyond-of-requires t)
-    (both-remember-requires t)
-    (both-returns-4 t)
-    (both-returns-5 t))
+    (enter-descend-requires t)
+    (enter-returns-2 t))
+    (λ t. enter-both-lts.spec (enter-both-claims t) (enter-both-at t) enter-both.Post
+    (enter-both-mul-cost t)
+    (enter-both-element-copy-out-cost t)
+    (enter-both-deep-at-requires t)
+    (enter-both-fits-again-requires t)
+    (enter-both-passed-again-requires t)
+    (enter-both-returns t)
+    (enter-both-descend-both-requires t)
+    (enter-both-returns-2 t))
     λ t. scan-part-lts.spec (claims t) (scan-part-at t) scan-part.Post Inv-loop μ-loop
     (deep-of-requires t)
     (loop-holds t)
