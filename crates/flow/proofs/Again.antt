@@ -107,6 +107,6 @@ module _ (C : Code) where
         on (Loop r dst) z g f = absurd (false-not-true g)
         on (Call c dst num) z g f = absurd (false-not-true g)
         on (Jump c dst num) z g f =
-            let (known, within) = both (ltb 0 k) _ g in
+            let (known, within) = both _ _ g in
             let j = f (ltb-true 0 k known) in
             rw (z, lt-ltb p (dst .0) (j .ahead), within, j .own E (ltb-true (dst .0) E within))

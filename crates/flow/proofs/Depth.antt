@@ -45,7 +45,7 @@ module _ (C : Code) where
   own-cong zero g p E a b = sym (own-past g p E (omega arith))
   own-cong (suc f) zero p E a b = own-past (suc f) p E (omega arith)
   own-cong (suc f) (suc g) p E a b =
-      pick-cong (ltb p E) _ _ _ (λ y. ap (λ (l : List ℕ). p ∷ l) (pick-cong (spans (C .control p) p E) _ _ _ (λ s.
+      pick-cong (ltb p E) _ _ _ (λ y. ap (λ (l : List ℕ). p ∷ l) (pick-cong _ _ _ _ (λ s.
       let n = spans-in (C .control p) p E (ltb-true p E y) s in
       own-cong f g (nextOf (C .control p) p) E (omega arith) (omega arith))))
 
