@@ -8,11 +8,10 @@ use lib.Dec.{leb, ltb, eqb}
 use borrow.Author.Tests.{ltb-true, lt-ltb, le-leb, eqb-true}
 use Rattle.instruction.specs.declared.flow_control.Control.{Control}
 use Rattle.instruction.specs.declared.flow_control.Control.the-variants.{Unknown, Plain, Emit, End, Break, If, Loop, Call, Jump}
-use Rattle.flow.specs.Inside.{rulesOf, unless, partsOf, lookOf, Reaches, Recalled, goesOn}
+use Rattle.flow.specs.Inside.{unless, partsOf, lookOf, Reaches, Recalled, goesOn}
 use Rattle.flow.specs.Own.{nextOf, spans, ownFrom, ownWords, has}
-use Rattle.flow.specs.Rules.{Code, pick}
+use Rattle.flow.specs.Rules.{Code, Rules, pick}
 use Rattle.flow.specs.Visits.{faultAt}
-use Rattle.flow.specs.declared.look.Allowed.{Allowed}
 use Rattle.flow.specs.declared.look.Look.the-variants.{Next}
 use Rattle.flow.specs.declared.look.Opens.{Opens}
 use Rattle.flow.specs.declared.scan.Deep.{Deep}
@@ -92,12 +91,12 @@ module _ (C : Code) where
       record { ahead = ltb-true p dst after; own = λ E′ h. own-again (p + 1) E E′ dst own h }
 
   -- what is told without the tests is what they tell
-  module _ (a : Allowed) (m : List Bool) (x : Opens) (w p E k : ℕ) (d : Deep) where
-    pub goes-next : goesOn (C .control p) k E ≡ true → (1 ≤ k → Recalled C a m (C .control p) p k d) → Next ≡ lookOf C (rulesOf a) x w p E
+  module _ (R : Rules) (m : List Bool) (x : Opens) (w p E k : ℕ) (d : Deep) where
+    pub goes-next : goesOn (C .control p) k E ≡ true → (1 ≤ k → Recalled C R m (C .control p) p k d) → Next ≡ lookOf C R x w p E
     unfolding lookOf faultAt
     goes-next e q = on (C .control p) refl e q
       where
-        on : (i : Control) → C .control p ≡ i → goesOn i k E ≡ true → (1 ≤ k → Recalled C a m i p k d) → Next ≡ unless (faultAt C (rulesOf a) x p E) (partsOf (C .control p) x w p)
+        on : (i : Control) → C .control p ≡ i → goesOn i k E ≡ true → (1 ≤ k → Recalled C R m i p k d) → Next ≡ unless (faultAt C R x p E) (partsOf R (C .control p) x w p)
         on Unknown z g f = rw z
         on Plain z g f = rw z
         on End z g f = rw z

@@ -42,7 +42,7 @@ module _ (C : Code) (a : Allowed) (x : Opens) (w p E : ℕ) where
   pub record Fits (r : Part) : Type 0 where
     pub within : r .to .0 ≤ C .words
     pub weighs : Weighs a r
-    pub under : Under a (deepOf (r .opens))
+    pub under : Under R (deepOf (r .opens))
     pub smaller : size C R (r .opens) (r .from .0) (r .to .0) < size C R x p E
 
   abbrev Onward : ℕ → Type 0
@@ -54,8 +54,8 @@ module _ (C : Code) (a : Allowed) (x : Opens) (w p E : ℕ) where
   AllFit (One r next) = Fits r × Onward (next .0)
   AllFit (Two r next) = Fits r × Fits (afterPart r next) × Onward (next .0)
 
-  module _ (l : p < E) (h : E ≤ C .words) (g : Weighs a (partOf x w p E)) (y : Under a (deepOf x)) where
-    parts-fit : (i : Control) → Passed C R i x p E → AllFit (partsOf i x w p)
+  module _ (l : p < E) (h : E ≤ C .words) (g : Weighs a (partOf x w p E)) (y : Under R (deepOf x)) where
+    parts-fit : (i : Control) → Passed C R i x p E → AllFit (partsOf R i x w p)
     parts-fit Unknown o = tt
     parts-fit Plain o = tt
     parts-fit Emit o = tt
@@ -64,7 +64,7 @@ module _ (C : Code) (a : Allowed) (x : Opens) (w p E : ℕ) where
     parts-fit (If c dst num) o =
         let b = if-bounds C R c dst num p E (o .bounds) in
         let s = spare-if C R x (o .room) in
-        let deeper : Under a (deepOf (inIf x)) = (y .0, omega (arith, leb-false (a .ifs) (x .ifs) (o .room)), y .2) in (
+        let deeper : Under R (deepOf (inIf x)) = (y .0, omega (arith, leb-false (a .ifs) (x .ifs) (o .room)), y .2) in (
           record { within = omega arith; weighs = g; under = deeper; smaller = fewer C R x (inIf x) p E (p + 1) (dst .0) s (omega arith) },
           record { within = omega arith; weighs = g; under = deeper; smaller = fewer C R x (inIf x) p E (dst .0) (dst .0 + num) s (omega arith) },
           omega arith,
@@ -82,7 +82,7 @@ module _ (C : Code) (a : Allowed) (x : Opens) (w p E : ℕ) where
         )
     parts-fit (Call c dst num) o =
         let b = call-bounds C R c dst num p E (o .bounds) in
-        let deeper : Under a (deepOf (inCall x)) = (omega (arith, leb-false (a .calls) (x .calls) (o .room)), y .1, y .2) in
+        let deeper : Under R (deepOf (inCall x)) = (omega (arith, leb-false (a .calls) (x .calls) (o .room)), y .1, y .2) in
         (record { within = omega arith; weighs = g; under = deeper; smaller = fewer C R x (inCall x) p E (dst .0) (dst .0 + num) (spare-call C R x (o .room)) (omega arith) }, omega arith)
     parts-fit (Jump c dst num) o = tt
 
@@ -90,7 +90,7 @@ module _ (C : Code) (a : Allowed) (x : Opens) (w p E : ℕ) where
     unfolding lookOf
     look-fits = by (faultAt C R x p E) refl
       where
-        by : (f : Fault) → faultAt C R x p E ≡ f → AllFit (unless f (partsOf (C .control p) x w p))
+        by : (f : Fault) → faultAt C R x p E ≡ f → AllFit (unless f (partsOf R (C .control p) x w p))
         by (At n q) e = tt
         by Nothing e = parts-fit (C .control p) (fault-none C R x p E e)
 

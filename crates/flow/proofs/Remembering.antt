@@ -15,10 +15,9 @@ use Rattle.binary.specs.Addresses.{wordAddress}
 use Rattle.binary.specs.declared.WordAddress.{WordAddress}
 use Rattle.instruction.specs.declared.flow_control.Control.{Control}
 use Rattle.instruction.specs.declared.flow_control.Control.the-variants.{Unknown, Plain, Emit, End, Break, If, Loop, Call, Jump}
-use Rattle.flow.specs.Inside.{rulesOf, unless, partOf, partsOf, lookOf, scanned, scanOf, beyond, Room, Covers, Passes, PassesBoth, Left, LeftBoth, afterPart, scanBoth, deepest, opened, Asks, AsksBoth, Recalled, packed, unpacked, deepAt, Memory, fitsAgain}
-use Rattle.flow.specs.Rules.{Code, inIf, inLoop, inCall}
+use Rattle.flow.specs.Inside.{unless, partOf, partsOf, lookOf, scanned, scanOf, beyond, Room, Covers, Passes, PassesBoth, Left, LeftBoth, afterPart, scanBoth, deepest, opened, Asks, AsksBoth, Recalled, packed, unpacked, deepAt, Memory, fitsAgain}
+use Rattle.flow.specs.Rules.{Code, Rules, inIf, inLoop, inCall}
 use Rattle.flow.specs.Visits.{faultAt}
-use Rattle.flow.specs.declared.look.Allowed.{Allowed}
 use Rattle.flow.specs.declared.look.Look.the-variants.{Next, One, Two}
 use Rattle.flow.specs.declared.look.Opens.{Opens}
 use Rattle.flow.specs.declared.look.Part.{Part}
@@ -38,33 +37,33 @@ unpacked-packed d h g =
     let loops : packed d % 256 ≡ d .loops = omega arith in
     rw (calls, ifs, loops)
 
-module _ (C : Code) (a : Allowed) where
+module _ (C : Code) (R : Rules) where
   -- the part that a word asks for
-  pub asks-one : (x : Opens) (w p E : ℕ) {r : Part} {next : WordAddress} → One r next ≡ lookOf C (rulesOf a) x w p E → Asks (C .control p) p r
+  pub asks-one : (x : Opens) (w p E : ℕ) {r : Part} {next : WordAddress} → One r next ≡ lookOf C R x w p E → Asks (C .control p) p r
   unfolding lookOf
-  asks-one x w p E {r} {next} e = by (faultAt C (rulesOf a) x p E) e
+  asks-one x w p E {r} {next} e = by (faultAt C R x p E) e
     where
-      on : (i : Control) → One r next ≡ partsOf i x w p → Asks i p r
+      on : (i : Control) → One r next ≡ partsOf R i x w p → Asks i p r
       on Unknown g = apart (cc)
       on Plain g = apart (cc)
       on Emit g = apart (cc)
       on End g = apart (cc)
       on (Break c) g = apart (cc)
       on (If c dst num) g = apart (cc)
-      on (Loop q dst) g = let same : r ≡ partOf (inLoop x) (w * 256) (p + 1) (dst .0 + 1) = cc in rw same (refl, refl, refl)
+      on (Loop q dst) g = let same : r ≡ partOf (inLoop x) (w * R .turns q) (p + 1) (dst .0 + 1) = cc in rw same (refl, refl, refl)
       on (Call c dst num) g = let same : r ≡ partOf (inCall x) w (dst .0) (dst .0 + num) = cc in rw same (refl, refl, refl)
       on (Jump c dst num) g = apart (cc)
 
-      by : (f : Fault) → One r next ≡ unless f (partsOf (C .control p) x w p) → Asks (C .control p) p r
+      by : (f : Fault) → One r next ≡ unless f (partsOf R (C .control p) x w p) → Asks (C .control p) p r
       by (At n q) g = apart (cc)
       by Nothing g = on (C .control p) g
 
   -- the parts that an IF asks for
-  pub asks-both : (x : Opens) (w p E : ℕ) {r : Part} {next : WordAddress} → Two r next ≡ lookOf C (rulesOf a) x w p E → AsksBoth (C .control p) p r next
+  pub asks-both : (x : Opens) (w p E : ℕ) {r : Part} {next : WordAddress} → Two r next ≡ lookOf C R x w p E → AsksBoth (C .control p) p r next
   unfolding lookOf
-  asks-both x w p E {r} {next} e = by (faultAt C (rulesOf a) x p E) e
+  asks-both x w p E {r} {next} e = by (faultAt C R x p E) e
     where
-      on : (i : Control) → Two r next ≡ partsOf i x w p → AsksBoth i p r next
+      on : (i : Control) → Two r next ≡ partsOf R i x w p → AsksBoth i p r next
       on Unknown g = apart (cc)
       on Plain g = apart (cc)
       on Emit g = apart (cc)
@@ -78,16 +77,16 @@ module _ (C : Code) (a : Allowed) where
       on (Call c dst num) g = apart (cc)
       on (Jump c dst num) g = apart (cc)
 
-      by : (f : Fault) → Two r next ≡ unless f (partsOf (C .control p) x w p) → AsksBoth (C .control p) p r next
+      by : (f : Fault) → Two r next ≡ unless f (partsOf R (C .control p) x w p) → AsksBoth (C .control p) p r next
       by (At n q) g = apart (cc)
       by Nothing g = on (C .control p) g
 
   -- a word that went on: of a jump, that its target is good
-  next-recalled : (x : Opens) (w p E k : ℕ) (d : Deep) (m : List Bool) → Next ≡ lookOf C (rulesOf a) x w p E → Recalled C a m (C .control p) p k d
+  next-recalled : (x : Opens) (w p E k : ℕ) (d : Deep) (m : List Bool) → Next ≡ lookOf C R x w p E → Recalled C R m (C .control p) p k d
   unfolding lookOf
-  next-recalled x w p E k d m e = by (faultAt C (rulesOf a) x p E) refl e
+  next-recalled x w p E k d m e = by (faultAt C R x p E) refl e
     where
-      on : (i : Control) → Passed C (rulesOf a) i x p E → Next ≡ partsOf i x w p → Recalled C a m i p k d
+      on : (i : Control) → Passed C R i x p E → Next ≡ partsOf R i x w p → Recalled C R m i p k d
       on Unknown o g = tt
       on Plain o g = tt
       on Emit o g = tt
@@ -98,12 +97,12 @@ module _ (C : Code) (a : Allowed) where
       on (Call c dst num) o g = apart (cc)
       on (Jump c dst num) o g = jump-reaches C p E (dst .0) (not-bad _ (o .jumps))
 
-      by : (f : Fault) → faultAt C (rulesOf a) x p E ≡ f → Next ≡ unless f (partsOf (C .control p) x w p) → Recalled C a m (C .control p) p k d
+      by : (f : Fault) → faultAt C R x p E ≡ f → Next ≡ unless f (partsOf R (C .control p) x w p) → Recalled C R m (C .control p) p k d
       by (At n q) f g = apart (cc)
-      by Nothing f g = on (C .control p) (fault-none C (rulesOf a) x p E f) g
+      by Nothing f g = on (C .control p) (fault-none C R x p E f) g
 
   -- what is remembered of it is that it is passed
-  recalled-passes : (i : Control) (p : ℕ) (r : Part) (k : ℕ) (d : Deep) (m : List Bool) → Asks i p r → Recalled C a m i p k d → Passes C a (r .opens .looped) (r .from .0) (r .to .0) k d m
+  recalled-passes : (i : Control) (p : ℕ) (r : Part) (k : ℕ) (d : Deep) (m : List Bool) → Asks i p r → Recalled C R m i p k d → Passes C R (r .opens .looped) (r .from .0) (r .to .0) k d m
   recalled-passes Unknown p r k d m h q = absurd h
   recalled-passes Plain p r k d m h q = absurd h
   recalled-passes Emit p r k d m h q = absurd h
@@ -114,7 +113,7 @@ module _ (C : Code) (a : Allowed) where
   recalled-passes (Call c dst num) p r k d m h q = rw (h .0, h .1, h .2) q
   recalled-passes (Jump c dst num) p r k d m h q = absurd h
 
-  passes-recalled : (i : Control) (p : ℕ) (r : Part) (k : ℕ) (d : Deep) (m : List Bool) → Asks i p r → Passes C a (r .opens .looped) (r .from .0) (r .to .0) k d m → Recalled C a m i p k d
+  passes-recalled : (i : Control) (p : ℕ) (r : Part) (k : ℕ) (d : Deep) (m : List Bool) → Asks i p r → Passes C R (r .opens .looped) (r .from .0) (r .to .0) k d m → Recalled C R m i p k d
   passes-recalled Unknown p r k d m h q = absurd h
   passes-recalled Plain p r k d m h q = absurd h
   passes-recalled Emit p r k d m h q = absurd h
@@ -127,17 +126,17 @@ module _ (C : Code) (a : Allowed) where
 
   -- outside a LOOP, what is remembered of an IF is that both are passed
   module _ {i : Control} {p : ℕ} {r : Part} {next : WordAddress} (h : AsksBoth i p r next) (k : ℕ) (d : Deep) (m : List Bool) where
-    recalled-both : Recalled C a m i p k d → PassesBoth C a false (r .from .0) (r .to .0) (next .0) k d m
+    recalled-both : Recalled C R m i p k d → PassesBoth C R false (r .from .0) (r .to .0) (next .0) k d m
     recalled-both q = rw (h .end, h .to, h .from) (rw (h .is) at q)
 
-    both-recalled : PassesBoth C a false (r .from .0) (r .to .0) (next .0) k d m → Recalled C a m i p k d
+    both-recalled : PassesBoth C R false (r .from .0) (r .to .0) (next .0) k d m → Recalled C R m i p k d
     both-recalled q = rw (h .is) (rw (h .end, h .to, h .from) at q)
 
   -- more marks
-  passes-grow : {b : Bool} {p E k : ℕ} {d : Deep} {m m′ : List Bool} → Covers m m′ → Passes C a b p E k d m → Passes C a b p E k d m′
+  passes-grow : {b : Bool} {p E k : ℕ} {d : Deep} {m m′ : List Bool} → Covers m m′ → Passes C R b p E k d m → Passes C R b p E k d m′
   passes-grow g q = record { again = λ x w t m″ same room fits c. q .again x w t m″ same room fits (covers-trans g c) }
 
-  recalled-grows : (i : Control) (p k : ℕ) (d : Deep) {m m′ : List Bool} → Covers m m′ → Recalled C a m i p k d → Recalled C a m′ i p k d
+  recalled-grows : (i : Control) (p k : ℕ) (d : Deep) {m m′ : List Bool} → Covers m m′ → Recalled C R m i p k d → Recalled C R m′ i p k d
   recalled-grows Unknown p k d g q = tt
   recalled-grows Plain p k d g q = tt
   recalled-grows Emit p k d g q = tt
@@ -148,7 +147,7 @@ module _ (C : Code) (a : Allowed) where
   recalled-grows (Call c dst num) p k d g q = passes-grow g q
   recalled-grows (Jump c dst num) p k d g q = q
 
-  pub memory-grows : {m m′ : List Bool} {costs depths : List ℕ} → Covers m m′ → Memory C a m costs depths → Memory C a m′ costs depths
+  pub memory-grows : {m m′ : List Bool} {costs depths : List ℕ} → Covers m m′ → Memory C R m costs depths → Memory C R m′ costs depths
   memory-grows {costs = costs} {depths = depths} g y =
       record {
         costs-long = y .costs-long;
@@ -156,7 +155,7 @@ module _ (C : Code) (a : Allowed) where
         recalls = λ p h. recalled-grows (C .control p) p (getD costs p 0) (deepAt depths p) g (y .recalls p h);
       }
 
-  pub memory-none : (m : List Bool) → Memory C a m (replicate 512 0) (replicate 512 0)
+  pub memory-none : (m : List Bool) → Memory C R m (replicate 512 0) (replicate 512 0)
   memory-none m =
       record {
         costs-long = length-replicate {A = ℕ} 512 0;
@@ -170,8 +169,8 @@ module _ (C : Code) (a : Allowed) where
       nothing (suc n) (suc p) = nothing n p
 
   -- one region more
-  module _ {m : List Bool} {costs depths : List ℕ} (y : Memory C a m costs depths) (p k : ℕ) (d : Deep) (h : p < 512) (small : (d .calls < 256) × (d .ifs < 256) × (d .loops < 256)) (q : Recalled C a m (C .control p) p k d) where
-    pub memory-more : Memory C a m (set costs p k) (set depths p (packed d))
+  module _ {m : List Bool} {costs depths : List ℕ} (y : Memory C R m costs depths) (p k : ℕ) (d : Deep) (h : p < 512) (small : (d .calls < 256) × (d .ifs < 256) × (d .loops < 256)) (q : Recalled C R m (C .control p) p k d) where
+    pub memory-more : Memory C R m (set costs p k) (set depths p (packed d))
     memory-more =
         record {
           costs-long = length-set costs p k ∙ y .costs-long;
@@ -179,7 +178,7 @@ module _ (C : Code) (a : Allowed) where
           recalls = λ z g. by z g (eqb z p) refl;
         }
       where
-        by : (z : ℕ) → 1 ≤ getD (set costs p k) z 0 → (b : Bool) → eqb z p ≡ b → Recalled C a m (C .control z) z (getD (set costs p k) z 0) (deepAt (set depths p (packed d)) z)
+        by : (z : ℕ) → 1 ≤ getD (set costs p k) z 0 → (b : Bool) → eqb z p ≡ b → Recalled C R m (C .control z) z (getD (set costs p k) z 0) (deepAt (set depths p (packed d)) z)
         by z g true e =
             rw (eqb-true z p e, getD-set-same costs p k 0 (omega (arith, y .costs-long)), getD-set-same depths p (packed d) 0 (omega (arith, y .depths-long)), unpacked-packed d (small .1) (small .2)) q
         by z g false e =
@@ -188,8 +187,8 @@ module _ (C : Code) (a : Allowed) where
             rw (c, getD-set-other depths p z (packed d) 0 o) (y .recalls z (rw c at g))
 
   -- .. of a word without parts
-  pub memory-next : {m : List Bool} {costs depths : List ℕ} → Memory C a m costs depths → (x : Opens) (w p E : ℕ) → p < 512 → Next ≡ lookOf C (rulesOf a) x w p E
-      → Memory C a m (set costs p 1) depths
+  pub memory-next : {m : List Bool} {costs depths : List ℕ} → Memory C R m costs depths → (x : Opens) (w p E : ℕ) → p < 512 → Next ≡ lookOf C R x w p E
+      → Memory C R m (set costs p 1) depths
   memory-next {m} {costs} {depths} y x w p E l e =
       record {
         costs-long = length-set costs p 1 ∙ y .costs-long;
@@ -197,22 +196,22 @@ module _ (C : Code) (a : Allowed) where
         recalls = λ z g. by z g (eqb z p) refl;
       }
     where
-      by : (z : ℕ) → 1 ≤ getD (set costs p 1) z 0 → (b : Bool) → eqb z p ≡ b → Recalled C a m (C .control z) z (getD (set costs p 1) z 0) (deepAt depths z)
+      by : (z : ℕ) → 1 ≤ getD (set costs p 1) z 0 → (b : Bool) → eqb z p ≡ b → Recalled C R m (C .control z) z (getD (set costs p 1) z 0) (deepAt depths z)
       by z g true f = let same = eqb-true z p f in rw same (next-recalled x w p E (getD (set costs p 1) p 0) (deepAt depths p) m e)
       by z g false f = let c = getD-set-other costs p z 1 0 (eqb-false z p f) in rw c (y .recalls z (rw c at g))
 
   -- what is opened beyond what is open
-  opened-passes : {b : Bool} {p E k : ℕ} (y : Opens) {d : Deep} {m : List Bool} → Passes C a b p E k d m → Passes C a b p E k (beyond (opened y d) y) m
+  opened-passes : {b : Bool} {p E k : ℕ} (y : Opens) {d : Deep} {m : List Bool} → Passes C R b p E k d m → Passes C R b p E k (beyond (opened y d) y) m
   opened-passes y q = record { again = λ x w u m′ same room fits c. q .again x w u m′ same (omega (arith, room), omega (arith, room), omega (arith, room)) fits c }
 
   -- a part that fits again
   module _ (r : Part) (t k : ℕ) (d : Deep) (m : List Bool) where
     pub record Again : Type 0 where
       pub known : 1 ≤ k
-      pub room : Room a (r .opens) d
-      pub fits : t + r .weight * k ≤ a .most
+      pub room : Room R (r .opens) d
+      pub fits : t + r .weight * k ≤ R .most
 
-    pub fits-known : fitsAgain a r t k d ≡ true → Again
+    pub fits-known : fitsAgain R r t k d ≡ true → Again
     unfolding fitsAgain
     fits-known e =
         let (e₁, f) = both _ _ e in
@@ -225,11 +224,11 @@ module _ (C : Code) (a : Allowed) where
           fits = leb-true _ _ f;
         }
 
-    module _ (i : Control) (p : ℕ) (h : Asks i p r) (q : Recalled C a m i p k d) (g : Again) where
-      pub recalled-flow : scanned (Go (t + r .weight * k)) m ≡ scanOf C a r t m
+    module _ (i : Control) (p : ℕ) (h : Asks i p r) (q : Recalled C R m i p k d) (g : Again) where
+      pub recalled-flow : scanned (Go (t + r .weight * k)) m ≡ scanOf C R r t m
       recalled-flow = sym (recalled-passes i p r k d m h q .again (r .opens) (r .weight) t m refl (g .room) (g .fits) (covers-self m))
 
-      pub recalled-left : Left C a r t (t + r .weight * k) (opened (r .opens) d) m
+      pub recalled-left : Left C R r t (t + r .weight * k) (opened (r .opens) d) m
       recalled-left =
           record {
             cost = k;
@@ -240,20 +239,20 @@ module _ (C : Code) (a : Allowed) where
           }
 
     -- .. and two, of an IF
-    module _ (i : Control) (p : ℕ) (next : WordAddress) (h : AsksBoth i p r next) (b : r .opens .looped ≡ false) (q : Recalled C a m i p k d) (g : Again) where
-      passed : PassesBoth C a (r .opens .looped) (r .from .0) (r .to .0) (next .0) k d m
+    module _ (i : Control) (p : ℕ) (next : WordAddress) (h : AsksBoth i p r next) (b : r .opens .looped ≡ false) (q : Recalled C R m i p k d) (g : Again) where
+      passed : PassesBoth C R (r .opens .looped) (r .from .0) (r .to .0) (next .0) k d m
       passed = rw b (recalled-both h k d m q)
 
       sums : t + r .weight * passed .first + r .weight * passed .second ≡ t + r .weight * k
       sums = omega (arith, ap (λ y. r .weight * y) (passed .sum))
 
-      pub recalled-both-flow : scanned (Go (t + r .weight * k)) m ≡ scanBoth C a r next t m
+      pub recalled-both-flow : scanned (Go (t + r .weight * k)) m ≡ scanBoth C R r next t m
       recalled-both-flow =
           let first = passed .before .again (r .opens) (r .weight) t m refl (g .room) (omega (arith, g .fits, sums)) (covers-self m) in
           let second = passed .after .again (r .opens) (r .weight) (t + r .weight * passed .first) m refl (g .room) (omega (arith, g .fits, sums)) (covers-self m) in
-          rw (← sums) (both-go C a r next t m (sym first) refl (sym second))
+          rw (← sums) (both-go C R r next t m (sym first) refl (sym second))
 
-      pub recalled-both-left : LeftBoth C a r next t (t + r .weight * k) (opened (r .opens) d) m
+      pub recalled-both-left : LeftBoth C R r next t (t + r .weight * k) (opened (r .opens) d) m
       recalled-both-left =
           record {
             cost = k;
@@ -270,7 +269,7 @@ module _ (C : Code) (a : Allowed) where
           }
 
   -- what was found is remembered
-  pub remembered : (i : Control) (p : ℕ) (r : Part) {t t₁ : ℕ} {d : Deep} {m : List Bool} → Asks i p r → (l : Left C a r t t₁ d m) → Recalled C a m i p (l .cost) (beyond d (r .opens))
+  pub remembered : (i : Control) (p : ℕ) (r : Part) {t t₁ : ℕ} {d : Deep} {m : List Bool} → Asks i p r → (l : Left C R r t t₁ d m) → Recalled C R m i p (l .cost) (beyond d (r .opens))
   remembered i p r {d = d} {m = m} h l = passes-recalled i p r (l .cost) (beyond d (r .opens)) m h (l .passes)
 
   pub cost-is : (w t : ℕ) {t₁ : ℕ} (k : ℕ) → 1 ≤ w → t₁ ≡ t + w * k → (t₁ - t) / w ≡ k
@@ -279,20 +278,20 @@ module _ (C : Code) (a : Allowed) where
       rw e (mul-div-cancel-left k h)
 
   -- two parts that were passed, one after the other
-  deeper-passes : {b : Bool} {p E k : ℕ} {m : List Bool} (y : Opens) (d e : Deep) → (d .calls ≤ e .calls) × (d .ifs ≤ e .ifs) × (d .loops ≤ e .loops) → Passes C a b p E k (beyond d y) m → Passes C a b p E k (beyond e y) m
+  deeper-passes : {b : Bool} {p E k : ℕ} {m : List Bool} (y : Opens) (d e : Deep) → (d .calls ≤ e .calls) × (d .ifs ≤ e .ifs) × (d .loops ≤ e .loops) → Passes C R b p E k (beyond d y) m → Passes C R b p E k (beyond e y) m
   deeper-passes y d e l q = record { again = λ x w u m′ same room fits c. q .again x w u m′ same (omega (arith, l, room), omega (arith, l, room), omega (arith, l, room)) fits c }
 
-  module _ (r : Part) (next : WordAddress) {t t₁ t₂ : ℕ} {d₁ d₂ : Deep} {m₁ m₂ : List Bool} (f : Left C a r t t₁ d₁ m₁) (f′ : Left C a (afterPart r next) t₁ t₂ d₂ m₂) (g : Covers m₁ m₂) where
+  module _ (r : Part) (next : WordAddress) {t t₁ t₂ : ℕ} {d₁ d₂ : Deep} {m₁ m₂ : List Bool} (f : Left C R r t t₁ d₁ m₁) (f′ : Left C R (afterPart r next) t₁ t₂ d₂ m₂) (g : Covers m₁ m₂) where
     abbrev e : Deep
     e = deepest d₁ d₂
 
-    pub both-left : LeftBoth C a r next t t₂ e m₂
+    pub both-left : LeftBoth C R r next t t₂ e m₂
     both-left =
         record {
           cost = f .cost + f′ .cost;
           adds = omega (arith, f .adds, f′ .adds);
           over = (omega (arith, f .over, le-max-left (d₁ .calls) (d₂ .calls)), omega (arith, f .over, le-max-left (d₁ .ifs) (d₂ .ifs)), omega (arith, f .over, le-max-left (d₁ .loops) (d₂ .loops)));
-          under = under-both a d₁ d₂ (f .under) (f′ .under);
+          under = under-both R d₁ d₂ (f .under) (f′ .under);
           passes = record {
             first = f .cost;
             second = f′ .cost;
@@ -302,6 +301,6 @@ module _ (C : Code) (a : Allowed) where
           };
         }
 
-  pub remembered-both : (i : Control) (p : ℕ) (r : Part) (next : WordAddress) {t t₁ : ℕ} {d : Deep} {m : List Bool} → AsksBoth i p r next → r .opens .looped ≡ false → (l : LeftBoth C a r next t t₁ d m)
-      → Recalled C a m i p (l .cost) (beyond d (r .opens))
+  pub remembered-both : (i : Control) (p : ℕ) (r : Part) (next : WordAddress) {t t₁ : ℕ} {d : Deep} {m : List Bool} → AsksBoth i p r next → r .opens .looped ≡ false → (l : LeftBoth C R r next t t₁ d m)
+      → Recalled C R m i p (l .cost) (beyond d (r .opens))
   remembered-both i p r next {d = d} {m = m} h b l = both-recalled h (l .cost) (beyond d (r .opens)) m (rw b at (l .passes))

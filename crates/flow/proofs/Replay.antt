@@ -13,11 +13,10 @@ use Rattle.binary.specs.Addresses.{wordAddress}
 use Rattle.binary.specs.declared.WordAddress.{WordAddress}
 use Rattle.instruction.specs.declared.flow_control.Control.{Control}
 use Rattle.instruction.specs.declared.flow_control.Control.the-variants.{Unknown, Plain, Emit, End, Break, If, Loop, Call, Jump}
-use Rattle.flow.specs.Inside.{rulesOf, unless, partOf, partsOf, lookOf, Scanned, scanned, stopOr, replay, scanOf, replayThen, afterPart, scanBoth}
+use Rattle.flow.specs.Inside.{unless, partOf, partsOf, lookOf, Scanned, scanned, stopOr, replay, scanOf, replayThen, afterPart, scanBoth}
 use Rattle.flow.specs.Own.{nextOf}
 use Rattle.flow.specs.Rules.{Code, Rules, inIf, pick}
 use Rattle.flow.specs.Visits.{Visit, Trace, nothing, follow, andThen, unlessFault, parts, faultAt, visit, region, size, trace}
-use Rattle.flow.specs.declared.look.Allowed.{Allowed}
 use Rattle.flow.specs.declared.look.Look.{Look}
 use Rattle.flow.specs.declared.look.Look.the-variants.{Refuse, Next, One, Two}
 use Rattle.flow.specs.declared.look.Opens.{Opens}
@@ -74,10 +73,7 @@ module _ (C : Code) (R : Rules) where
   told x w p E l = trace-told C R (suc (size C R x p E)) x w p E l (omega arith)
 
 -- a region, by what its first word asks for
-module _ (C : Code) (a : Allowed) (x : Opens) (w p E : ℕ) (t : ℕ) (m : List Bool) where
-  abbrev R : Rules
-  R = rulesOf a
-
+module _ (C : Code) (R : Rules) (x : Opens) (w p E : ℕ) (t : ℕ) (m : List Bool) where
   abbrev visits : Opens → ℕ → ℕ → ℕ → List Visit
   visits y v q e = trace C R y v q e .visits
 
@@ -89,10 +85,10 @@ module _ (C : Code) (a : Allowed) (x : Opens) (w p E : ℕ) (t : ℕ) (m : List 
   asked (Refuse n) = scanned (Stop n (wordAddress p)) m
   asked Next = replay C R (visits x w (p + 1) E) t m
   asked (One r next) = replayThen C R (replay C R (partVisits r) t m) (visits x w (next .0) E)
-  asked (Two r next) = replayThen C R (scanBoth C a r next t m) (visits x w (next .0) E)
+  asked (Two r next) = replayThen C R (scanBoth C R r next t m) (visits x w (next .0) E)
 
   parts-asked : (i : Control) (l : p < E) (h : E ≤ C .words) → faultAt C R x p E ≡ Nothing → C .control p ≡ i
-      → replayThen C R (replay C R (parts R (trace C R) i x w p .visits) t m) (visits x w (nextOf i p) E) ≡ asked (partsOf i x w p)
+      → replayThen C R (replay C R (parts R (trace C R) i x w p .visits) t m) (visits x w (nextOf i p) E) ≡ asked (partsOf R i x w p)
   unfolding asked parts replay
   parts-asked Unknown l h o e = refl
   parts-asked Plain l h o e = refl
@@ -112,7 +108,7 @@ module _ (C : Code) (a : Allowed) (x : Opens) (w p E : ℕ) (t : ℕ) (m : List 
 
   looked : (l : p < E) (h : E ≤ C .words) (f : Fault) → faultAt C R x p E ≡ f
       → stopOr f p m (replay C R (unlessFault f (andThen (parts R (trace C R) (C .control p) x w p) (trace C R x w (nextOf (C .control p) p) E)) .visits) t m)
-      ≡ asked (unless f (partsOf (C .control p) x w p))
+      ≡ asked (unless f (partsOf R (C .control p) x w p))
   unfolding asked
   looked l h (At n q) e = refl
   looked l h Nothing e =
@@ -121,7 +117,7 @@ module _ (C : Code) (a : Allowed) (x : Opens) (w p E : ℕ) (t : ℕ) (m : List 
       ∙ parts-asked (C .control p) l h e refl
 
 -- a region from its word p on, with total t and marks m before it: at its end; at a word that exceeds the total; at any other, by what it asks for
-module _ (C : Code) (a : Allowed) (part : Part) (p t : ℕ) (m : List Bool) (h : part .to .0 ≤ C .words) where
+module _ (C : Code) (R : Rules) (part : Part) (p t : ℕ) (m : List Bool) (h : part .to .0 ≤ C .words) where
   abbrev x : Opens
   x = part .opens
 
@@ -132,57 +128,57 @@ module _ (C : Code) (a : Allowed) (part : Part) (p t : ℕ) (m : List Bool) (h :
   E = part .to .0
 
   abbrev fromHere : Scanned
-  fromHere = scanOf C a (partOf x w p E) t m
+  fromHere = scanOf C R (partOf x w p E) t m
 
   pub scan-end : E ≤ p → scanned (Go t) m ≡ fromHere
   unfolding replay region
-  scan-end l = rw (trace-eq C (rulesOf a) x w p E h, le-ltb p E l)
+  scan-end l = rw (trace-eq C R x w p E h, le-ltb p E l)
 
   module _ (l : p < E) where
-    pub scan-27 : a .most < t + w → scanned (Stop 27 (wordAddress p)) m ≡ fromHere
+    pub scan-27 : R .most < t + w → scanned (Stop 27 (wordAddress p)) m ≡ fromHere
     unfolding replay region visit
-    scan-27 o = rw (trace-eq C (rulesOf a) x w p E h, lt-ltb p E l, lt-ltb (a .most) (t + w) o)
+    scan-27 o = rw (trace-eq C R x w p E h, lt-ltb p E l, lt-ltb (R .most) (t + w) o)
 
-    module _ (o : t + w ≤ a .most) where
+    module _ (o : t + w ≤ R .most) where
       abbrev m′ : List Bool
       m′ = set m p true
 
-      scan-word : {k : Look} → k ≡ lookOf C (rulesOf a) x w p E → asked C a x w p E (t + w) m′ k ≡ fromHere
+      scan-word : {k : Look} → k ≡ lookOf C R x w p E → asked C R x w p E (t + w) m′ k ≡ fromHere
       unfolding replay region visit lookOf
       scan-word e =
-          ap (asked C a x w p E (t + w) m′) e
-          ∙ rw (trace-eq C (rulesOf a) x w p E h, lt-ltb p E l, le-ltb (a .most) (t + w) o) (sym (looked C a x w p E (t + w) m′ l h (faultAt C (rulesOf a) x p E) refl))
+          ap (asked C R x w p E (t + w) m′) e
+          ∙ rw (trace-eq C R x w p E h, lt-ltb p E l, le-ltb (R .most) (t + w) o) (sym (looked C R x w p E (t + w) m′ l h (faultAt C R x p E) refl))
 
-      pub scan-refuse : {n : ℕ} → Refuse n ≡ lookOf C (rulesOf a) x w p E → scanned (Stop n (wordAddress p)) m′ ≡ fromHere
+      pub scan-refuse : {n : ℕ} → Refuse n ≡ lookOf C R x w p E → scanned (Stop n (wordAddress p)) m′ ≡ fromHere
       unfolding asked
       scan-refuse e = scan-word e
 
-      pub scan-next : Next ≡ lookOf C (rulesOf a) x w p E → scanOf C a (partOf x w (p + 1) E) (t + w) m′ ≡ fromHere
+      pub scan-next : Next ≡ lookOf C R x w p E → scanOf C R (partOf x w (p + 1) E) (t + w) m′ ≡ fromHere
       unfolding asked
       scan-next e = scan-word e
 
-      module _ {r : Part} {next : WordAddress} (e : One r next ≡ lookOf C (rulesOf a) x w p E) {s : Scan} {m₁ : List Bool} (d : scanned s m₁ ≡ scanOf C a r (t + w) m′) where
+      module _ {r : Part} {next : WordAddress} (e : One r next ≡ lookOf C R x w p E) {s : Scan} {m₁ : List Bool} (d : scanned s m₁ ≡ scanOf C R r (t + w) m′) where
         pub scan-one-stop : {n : ℕ} {q : WordAddress} → s ≡ Stop n q → scanned s m₁ ≡ fromHere
         unfolding asked
         scan-one-stop g = rw (← scan-word e, ← d, g)
 
-        pub scan-one : {t₁ : ℕ} → s ≡ Go t₁ → scanOf C a (partOf x w (next .0) E) t₁ m₁ ≡ fromHere
+        pub scan-one : {t₁ : ℕ} → s ≡ Go t₁ → scanOf C R (partOf x w (next .0) E) t₁ m₁ ≡ fromHere
         unfolding asked
         scan-one g = rw (← scan-word e, ← d, g)
 
-      module _ {r : Part} {next : WordAddress} (e : Two r next ≡ lookOf C (rulesOf a) x w p E) {s : Scan} {m₁ : List Bool} (d : scanned s m₁ ≡ scanBoth C a r next (t + w) m′) where
+      module _ {r : Part} {next : WordAddress} (e : Two r next ≡ lookOf C R x w p E) {s : Scan} {m₁ : List Bool} (d : scanned s m₁ ≡ scanBoth C R r next (t + w) m′) where
         pub scan-two-stop : {n : ℕ} {q : WordAddress} → s ≡ Stop n q → scanned s m₁ ≡ fromHere
         unfolding asked
         scan-two-stop g = rw (← scan-word e, ← d, g)
 
-        pub scan-two : {t₁ : ℕ} → s ≡ Go t₁ → scanOf C a (partOf x w (next .0) E) t₁ m₁ ≡ fromHere
+        pub scan-two : {t₁ : ℕ} → s ≡ Go t₁ → scanOf C R (partOf x w (next .0) E) t₁ m₁ ≡ fromHere
         unfolding asked
         scan-two g = rw (← scan-word e, ← d, g)
 
 -- a part after another: not visited after a stop, visited where the first was passed
-module _ (C : Code) (a : Allowed) (r : Part) (next : WordAddress) (t : ℕ) (m : List Bool) {s : Scan} {m₁ : List Bool} (d : scanned s m₁ ≡ scanOf C a r t m) where
-  pub both-stop : {n : ℕ} {q : WordAddress} → s ≡ Stop n q → scanned s m₁ ≡ scanBoth C a r next t m
+module _ (C : Code) (R : Rules) (r : Part) (next : WordAddress) (t : ℕ) (m : List Bool) {s : Scan} {m₁ : List Bool} (d : scanned s m₁ ≡ scanOf C R r t m) where
+  pub both-stop : {n : ℕ} {q : WordAddress} → s ≡ Stop n q → scanned s m₁ ≡ scanBoth C R r next t m
   both-stop g = rw (← d, g)
 
-  pub both-go : {t₁ : ℕ} {s′ : Scan} {m₂ : List Bool} → s ≡ Go t₁ → scanned s′ m₂ ≡ scanOf C a (afterPart r next) t₁ m₁ → scanned s′ m₂ ≡ scanBoth C a r next t m
+  pub both-go : {t₁ : ℕ} {s′ : Scan} {m₂ : List Bool} → s ≡ Go t₁ → scanned s′ m₂ ≡ scanOf C R (afterPart r next) t₁ m₁ → scanned s′ m₂ ≡ scanBoth C R r next t m
   both-go g f = rw (← d, g) f

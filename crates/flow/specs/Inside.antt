@@ -72,20 +72,20 @@ unfoldable pub lookJump : Code → ℕ → ℕ → ℕ → Look
 lookJump C p E dst = unless (faultIf (not (ltb p dst && (ltb dst E && has (ownWords C (p + 1) E) dst))) 26 p) Next
 
 -- the parts of a word without a fault
-abbrev pub partsOf : Control → Opens → ℕ → ℕ → Look
-partsOf Unknown x w p = Next
-partsOf Plain x w p = Next
-partsOf Emit x w p = Next
-partsOf End x w p = Next
-partsOf (Break c) x w p = Next
-partsOf (If c dst num) x w p = Two (partOf (inIf x) w (p + 1) (dst .0)) (wordAddress (dst .0 + num))
-partsOf (Loop r dst) x w p = One (partOf (inLoop x) (w * 256) (p + 1) (dst .0 + 1)) (wordAddress (dst .0 + 1))
-partsOf (Call c dst num) x w p = One (partOf (inCall x) w (dst .0) (dst .0 + num)) (wordAddress (p + 1))
-partsOf (Jump c dst num) x w p = Next
+abbrev pub partsOf : Rules → Control → Opens → ℕ → ℕ → Look
+partsOf R Unknown x w p = Next
+partsOf R Plain x w p = Next
+partsOf R Emit x w p = Next
+partsOf R End x w p = Next
+partsOf R (Break c) x w p = Next
+partsOf R (If c dst num) x w p = Two (partOf (inIf x) w (p + 1) (dst .0)) (wordAddress (dst .0 + num))
+partsOf R (Loop r dst) x w p = One (partOf (inLoop x) (w * R .turns r) (p + 1) (dst .0 + 1)) (wordAddress (dst .0 + 1))
+partsOf R (Call c dst num) x w p = One (partOf (inCall x) w (dst .0) (dst .0 + num)) (wordAddress (p + 1))
+partsOf R (Jump c dst num) x w p = Next
 
 -- a visited word: its fault, or its parts
 unfoldable pub lookOf : Code → Rules → Opens → ℕ → ℕ → ℕ → Look
-lookOf C R x w p E = unless (faultAt C R x p E) (partsOf (C .control p) x w p)
+lookOf C R x w p E = unless (faultAt C R x p E) (partsOf R (C .control p) x w p)
 
 -- a region weighs 256 for each LOOP open, multiplied; never more than two are
 abbrev pub Weighs : Allowed → Part → Type 0
@@ -119,8 +119,8 @@ countTo zero f = 0
 countTo (suc n) f = countTo n f + pick (f n) 1 0
 
 -- the visits of a part
-abbrev pub scanOf : Code → Allowed → Part → ℕ → List Bool → Scanned
-scanOf C a r t m = replay C (rulesOf a) (trace C (rulesOf a) (r .opens) (r .weight) (r .from .0) (r .to .0) .visits) t m
+abbrev pub scanOf : Code → Rules → Part → ℕ → List Bool → Scanned
+scanOf C R r t m = replay C R (trace C R (r .opens) (r .weight) (r .from .0) (r .to .0) .visits) t m
 
 -- more visits after some: none after a stop
 abbrev pub andAfter : Code → Rules → Scan → List Bool → List Visit → Scanned
@@ -134,8 +134,8 @@ replayThen C R s us = andAfter C R (s .flow) (s .marks) us
 abbrev pub afterPart : Part → WordAddress → Part
 afterPart r next = partOf (r .opens) (r .weight) (r .to .0) (next .0)
 
-abbrev pub scanBoth : Code → Allowed → Part → WordAddress → ℕ → List Bool → Scanned
-scanBoth C a r next t m = replayThen C (rulesOf a) (scanOf C a r t m) (trace C (rulesOf a) (r .opens) (r .weight) (r .to .0) (next .0) .visits)
+abbrev pub scanBoth : Code → Rules → Part → WordAddress → ℕ → List Bool → Scanned
+scanBoth C R r next t m = replayThen C R (scanOf C R r t m) (trace C R (r .opens) (r .weight) (r .to .0) (next .0) .visits)
 
 -- the depths of a region without what is open around it. Over: what is open is within them
 abbrev pub beyond : Deep → Opens → Deep
@@ -145,12 +145,12 @@ abbrev pub Over : Deep → Opens → Type 0
 Over d x = (x .calls ≤ d .calls) × (x .ifs ≤ d .ifs) × (x .loops ≤ d .loops)
 
 -- no more than is allowed
-abbrev pub Under : Allowed → Deep → Type 0
-Under a d = (d .calls ≤ a .calls) × (d .ifs ≤ a .ifs) × (d .loops ≤ a .loops)
+abbrev pub Under : Rules → Deep → Type 0
+Under R d = (d .calls ≤ R .calls) × (d .ifs ≤ R .ifs) × (d .loops ≤ R .loops)
 
 -- what is open, with so much more, is allowed
-abbrev pub Room : Allowed → Opens → Deep → Type 0
-Room a x d = (x .calls + d .calls ≤ a .calls) × (x .ifs + d .ifs ≤ a .ifs) × (x .loops + d .loops ≤ a .loops)
+abbrev pub Room : Rules → Opens → Deep → Type 0
+Room R x d = (x .calls + d .calls ≤ R .calls) × (x .ifs + d .ifs ≤ R .ifs) × (x .loops + d .loops ≤ R .loops)
 
 -- every word that is marked in m is marked in m′
 pub record Covers (m m′ : List Bool) : Type 0 where
@@ -158,31 +158,31 @@ pub record Covers (m m′ : List Bool) : Type 0 where
 
 -- the region from p to E, with a LOOP open in the same main or called region or with none, costs k without the weight, needs room for d at most, and its words are marked in m:
 -- where it fits, visiting it adds weight × cost to the total and no mark
-pub record Passes (C : Code) (a : Allowed) (looped : Bool) (p E k : ℕ) (d : Deep) (m : List Bool) : Type 0 where
-  pub again : (x : Opens) (w t : ℕ) (m′ : List Bool) → x .looped ≡ looped → Room a x d → t + w * k ≤ a .most → Covers m m′ → scanOf C a (partOf x w p E) t m′ ≡ scanned (scan.Go (t + w * k)) m′
+pub record Passes (C : Code) (R : Rules) (looped : Bool) (p E k : ℕ) (d : Deep) (m : List Bool) : Type 0 where
+  pub again : (x : Opens) (w t : ℕ) (m′ : List Bool) → x .looped ≡ looped → Room R x d → t + w * k ≤ R .most → Covers m m′ → scanOf C R (partOf x w p E) t m′ ≡ scanned (scan.Go (t + w * k)) m′
 
 -- .. and the regions from p to q and from q to E, which cost k together
-pub record PassesBoth (C : Code) (a : Allowed) (looped : Bool) (p q E k : ℕ) (d : Deep) (m : List Bool) : Type 0 where
+pub record PassesBoth (C : Code) (R : Rules) (looped : Bool) (p q E k : ℕ) (d : Deep) (m : List Bool) : Type 0 where
   pub first : ℕ
   pub second : ℕ
   pub sum : k ≡ first + second
-  pub before : Passes C a looped p q first d m
-  pub after : Passes C a looped q E second d m
+  pub before : Passes C R looped p q first d m
+  pub after : Passes C R looped q E second d m
 
 -- what a part that was passed leaves: its cost in the total, depths that are enough for it, and that it is passed wherever these fit
-pub record Left (C : Code) (a : Allowed) (r : Part) (before after : ℕ) (d : Deep) (m : List Bool) : Type 0 where
+pub record Left (C : Code) (R : Rules) (r : Part) (before after : ℕ) (d : Deep) (m : List Bool) : Type 0 where
   pub cost : ℕ
   pub adds : after ≡ before + r .weight * cost
   pub over : Over d (r .opens)
-  pub under : Under a d
-  pub passes : Passes C a (r .opens .looped) (r .from .0) (r .to .0) cost (beyond d (r .opens)) m
+  pub under : Under R d
+  pub passes : Passes C R (r .opens .looped) (r .from .0) (r .to .0) cost (beyond d (r .opens)) m
 
-pub record LeftBoth (C : Code) (a : Allowed) (r : Part) (next : WordAddress) (before after : ℕ) (d : Deep) (m : List Bool) : Type 0 where
+pub record LeftBoth (C : Code) (R : Rules) (r : Part) (next : WordAddress) (before after : ℕ) (d : Deep) (m : List Bool) : Type 0 where
   pub cost : ℕ
   pub adds : after ≡ before + r .weight * cost
   pub over : Over d (r .opens)
-  pub under : Under a d
-  pub passes : PassesBoth C a (r .opens .looped) (r .from .0) (r .to .0) (next .0) cost (beyond d (r .opens)) m
+  pub under : Under R d
+  pub passes : PassesBoth C R (r .opens .looped) (r .from .0) (r .to .0) (next .0) cost (beyond d (r .opens)) m
 
 abbrev pub deepest : Deep → Deep → Deep
 deepest d e = record { calls = max (d .calls) (e .calls); ifs = max (d .ifs) (e .ifs); loops = max (d .loops) (e .loops) }
@@ -222,16 +222,16 @@ pub record Reaches (C : Code) (p dst : ℕ) : Type 0 where
   pub own : (E : ℕ) → dst < E → has (ownWords C (p + 1) E) dst ≡ true
 
 -- what is remembered of the word at p: of a LOOP, a CALL, and an IF with no LOOP around it, the cost of its regions and what they open at most; of a jump, that its target is good
-abbrev pub Recalled : Code → Allowed → List Bool → Control → ℕ → ℕ → Deep → Type 0
-Recalled C a m Unknown p k d = Unit {0}
-Recalled C a m Plain p k d = Unit {0}
-Recalled C a m Emit p k d = Unit {0}
-Recalled C a m End p k d = Unit {0}
-Recalled C a m (Break c) p k d = Unit {0}
-Recalled C a m (If c dst num) p k d = PassesBoth C a false (p + 1) (dst .0) (dst .0 + num) k d m
-Recalled C a m (Loop q dst) p k d = Passes C a true (p + 1) (dst .0 + 1) k d m
-Recalled C a m (Call c dst num) p k d = Passes C a false (dst .0) (dst .0 + num) k d m
-Recalled C a m (Jump c dst num) p k d = Reaches C p (dst .0)
+abbrev pub Recalled : Code → Rules → List Bool → Control → ℕ → ℕ → Deep → Type 0
+Recalled C R m Unknown p k d = Unit {0}
+Recalled C R m Plain p k d = Unit {0}
+Recalled C R m Emit p k d = Unit {0}
+Recalled C R m End p k d = Unit {0}
+Recalled C R m (Break c) p k d = Unit {0}
+Recalled C R m (If c dst num) p k d = PassesBoth C R false (p + 1) (dst .0) (dst .0 + num) k d m
+Recalled C R m (Loop q dst) p k d = Passes C R true (p + 1) (dst .0 + 1) k d m
+Recalled C R m (Call c dst num) p k d = Passes C R false (dst .0) (dst .0 + num) k d m
+Recalled C R m (Jump c dst num) p k d = Reaches C p (dst .0)
 
 -- three depths in one number, each below 256
 abbrev pub packed : Deep → ℕ
@@ -244,15 +244,15 @@ abbrev pub deepAt : List ℕ → ℕ → Deep
 deepAt depths p = unpacked (getD depths p 0)
 
 -- two arrays: the costs, 0 where nothing is remembered, and the depths. Of a jump whose target was found the cost is 1
-pub record Memory (C : Code) (a : Allowed) (m : List Bool) (costs depths : List ℕ) : Type 0 where
+pub record Memory (C : Code) (R : Rules) (m : List Bool) (costs depths : List ℕ) : Type 0 where
   pub costs-long : length costs ≡ 512
   pub depths-long : length depths ≡ 512
-  pub recalls : (p : ℕ) → 1 ≤ getD costs p 0 → Recalled C a m (C .control p) p (getD costs p 0) (deepAt depths p)
+  pub recalls : (p : ℕ) → 1 ≤ getD costs p 0 → Recalled C R m (C .control p) p (getD costs p 0) (deepAt depths p)
 
 -- a remembered region fits
-unfoldable pub fitsAgain : Allowed → Part → ℕ → ℕ → Deep → Bool
-fitsAgain a r t k d =
-    (((ltb 0 k && leb (r .opens .calls + d .calls) (a .calls)) && leb (r .opens .ifs + d .ifs) (a .ifs)) && leb (r .opens .loops + d .loops) (a .loops)) && leb (t + r .weight * k) (a .most)
+unfoldable pub fitsAgain : Rules → Part → ℕ → ℕ → Deep → Bool
+fitsAgain R r t k d =
+    (((ltb 0 k && leb (r .opens .calls + d .calls) (R .calls)) && leb (r .opens .ifs + d .ifs) (R .ifs)) && leb (r .opens .loops + d .loops) (R .loops)) && leb (t + r .weight * k) (R .most)
 
 -- limits below 256, so that depths can be packed
 abbrev pub Small : Allowed → Type 0
@@ -279,22 +279,22 @@ pub record Ready (C : Code) (a : Allowed) (r : Part) (m : List Bool) (costs dept
   pub within : r .to .0 ≤ C .words
   pub few : C .words ≤ 512
   pub weighs : Weighs a r
-  pub under : Under a (deepOf (r .opens))
+  pub under : Under (rulesOf a) (deepOf (r .opens))
   pub small : Small a
   pub long : length m ≡ 512
-  pub memory : Memory C a m costs depths
+  pub memory : Memory C (rulesOf a) m costs depths
 
-pub record Scans (C : Code) (a : Allowed) (r : Part) (before : ℕ) (m₀ : List Bool) (o : Outcome) (m : List Bool) (costs depths : List ℕ) : Type 0 where
-  pub flow : scanned (o .scan) m ≡ scanOf C a r before m₀
+pub record Scans (C : Code) (R : Rules) (r : Part) (before : ℕ) (m₀ : List Bool) (o : Outcome) (m : List Bool) (costs depths : List ℕ) : Type 0 where
+  pub flow : scanned (o .scan) m ≡ scanOf C R r before m₀
   pub grown : Covers m₀ m
   pub long : length m ≡ 512
-  pub memory : Memory C a m costs depths
-  pub left : (t : ℕ) → o .scan ≡ scan.Go t → Left C a r before t (o .deep) m
+  pub memory : Memory C R m costs depths
+  pub left : (t : ℕ) → o .scan ≡ scan.Go t → Left C R r before t (o .deep) m
 
 -- .. and of two, one after the other up to next
-pub record ScansBoth (C : Code) (a : Allowed) (r : Part) (next : WordAddress) (before : ℕ) (m₀ : List Bool) (o : Outcome) (m : List Bool) (costs depths : List ℕ) : Type 0 where
-  pub flow : scanned (o .scan) m ≡ scanBoth C a r next before m₀
+pub record ScansBoth (C : Code) (R : Rules) (r : Part) (next : WordAddress) (before : ℕ) (m₀ : List Bool) (o : Outcome) (m : List Bool) (costs depths : List ℕ) : Type 0 where
+  pub flow : scanned (o .scan) m ≡ scanBoth C R r next before m₀
   pub grown : Covers m₀ m
   pub long : length m ≡ 512
-  pub memory : Memory C a m costs depths
-  pub left : (t : ℕ) → o .scan ≡ scan.Go t → LeftBoth C a r next before t (o .deep) m
+  pub memory : Memory C R m costs depths
+  pub left : (t : ℕ) → o .scan ≡ scan.Go t → LeftBoth C R r next before t (o .deep) m

@@ -4,7 +4,7 @@ ghost use Prim.Native.Nat.{_+_, _*_, _≤_, _<_, max};
 ghost use lib.ListN.{length, set};
 ghost use Rattle.binary.specs.Addresses.{wordAddress};
 ghost use Rattle.flow.specs.Flow.{codeOf};
-ghost use Rattle.flow.specs.Inside.{afterPart, deepOf, deepest, beyond, Over, Under, Small, Room, Asks, AsksBoth, goesOn, packed, deepAt, fitsAgain, passedAgain, Weighs, scanned, scanOf, Ready, Scans, ScansBoth};
+ghost use Rattle.flow.specs.Inside.{rulesOf, afterPart, deepOf, deepest, beyond, Over, Under, Small, Room, Asks, AsksBoth, goesOn, packed, deepAt, fitsAgain, passedAgain, Weighs, scanned, scanOf, Ready, Scans, ScansBoth};
 use crate::look::Allowed;
 use crate::look::Look;
 use crate::look::Opens;
@@ -109,7 +109,7 @@ fn stop(number: u32, p: u32) -> Outcome
 // Whether a region of this cost and depth, without the weight and what is open around it, fits in here and into the total.
 fn fits_again(allowed: Allowed, part: Part, total: u32, cost: u32, deep: Deep) -> bool
     requires { ⌜ part .weight ≤ 65536 ⌝ }
-    ensures { λ r. ⌜ r ≡ fitsAgain allowed part total cost deep ⌝ }
+    ensures { λ r. ⌜ r ≡ fitsAgain (rulesOf allowed) part total cost deep ⌝ }
 {
     let calls = part.opens.calls as u64 + deep.calls as u64;
     let ifs = part.opens.ifs as u64 + deep.ifs as u64;
@@ -124,7 +124,7 @@ fn fits_again(allowed: Allowed, part: Part, total: u32, cost: u32, deep: Deep) -
 
 // What a region that fits again leaves: its cost in the total, and what it opens added to what is open around it.
 fn passed_again(allowed: Allowed, part: Part, total: u32, cost: u32, deep: Deep) -> Outcome
-    requires { ⌜ Room allowed (part .opens) deep × (total + part .weight * cost ≤ allowed .most) ⌝ }
+    requires { ⌜ Room (rulesOf allowed) (part .opens) deep × (total + part .weight * cost ≤ allowed .most) ⌝ }
     ensures { λ r. ⌜ r ≡ passedAgain part total cost deep ⌝ }
 {
     let around = part.opens;
@@ -180,7 +180,7 @@ fn descend(
     total: u32,
 ) -> Outcome
     requires { ⌜ Ready (codeOf (now words) 0) allowed part (now marks) (now costs) (now depths) × Asks (codeOf (now words) 0 .control p) p part × (p < 512) ⌝ }
-    ensures { λ r. ⌜ Scans (codeOf (now (words .entry)) 0) allowed part total (now (marks .entry)) r (now (marks .exit)) (now (costs .exit)) (now (depths .exit)) ⌝ }
+    ensures { λ r. ⌜ Scans (codeOf (now (words .entry)) 0) (rulesOf allowed) part total (now (marks .entry)) r (now (marks .exit)) (now (costs .exit)) (now (depths .exit)) ⌝ }
 {
     let found = scan_part(words, allowed, marks, costs, depths, part, total);
     let scan = found.scan;
@@ -205,7 +205,7 @@ fn enter(
     total: u32,
 ) -> Outcome
     requires { ⌜ Ready (codeOf (now words) 0) allowed part (now marks) (now costs) (now depths) × Asks (codeOf (now words) 0 .control p) p part × (p < 512) ⌝ }
-    ensures { λ r. ⌜ Scans (codeOf (now (words .entry)) 0) allowed part total (now (marks .entry)) r (now (marks .exit)) (now (costs .exit)) (now (depths .exit)) ⌝ }
+    ensures { λ r. ⌜ Scans (codeOf (now (words .entry)) 0) (rulesOf allowed) part total (now (marks .entry)) r (now (marks .exit)) (now (costs .exit)) (now (depths .exit)) ⌝ }
 {
     let at = p as usize;
     let cost = costs[at];
@@ -230,7 +230,7 @@ fn descend_both(
     total: u32,
 ) -> Outcome
     requires { ⌜ Ready (codeOf (now words) 0) allowed yes (now marks) (now costs) (now depths) × (next .0 ≤ length (now words)) × AsksBoth (codeOf (now words) 0 .control p) p yes next × (p < 512) ⌝ }
-    ensures { λ r. ⌜ ScansBoth (codeOf (now (words .entry)) 0) allowed yes next total (now (marks .entry)) r (now (marks .exit)) (now (costs .exit)) (now (depths .exit)) ⌝ }
+    ensures { λ r. ⌜ ScansBoth (codeOf (now (words .entry)) 0) (rulesOf allowed) yes next total (now (marks .entry)) r (now (marks .exit)) (now (costs .exit)) (now (depths .exit)) ⌝ }
 {
     let first = scan_part(words, allowed, marks, costs, depths, yes, total);
     let scan1 = first.scan;
@@ -267,7 +267,7 @@ fn enter_both(
     total: u32,
 ) -> Outcome
     requires { ⌜ Ready (codeOf (now words) 0) allowed yes (now marks) (now costs) (now depths) × (next .0 ≤ length (now words)) × AsksBoth (codeOf (now words) 0 .control p) p yes next × (p < 512) ⌝ }
-    ensures { λ r. ⌜ ScansBoth (codeOf (now (words .entry)) 0) allowed yes next total (now (marks .entry)) r (now (marks .exit)) (now (costs .exit)) (now (depths .exit)) ⌝ }
+    ensures { λ r. ⌜ ScansBoth (codeOf (now (words .entry)) 0) (rulesOf allowed) yes next total (now (marks .entry)) r (now (marks .exit)) (now (costs .exit)) (now (depths .exit)) ⌝ }
 {
     let at = p as usize;
     let cost = costs[at];
@@ -290,7 +290,7 @@ pub(crate) fn scan_part(
     total: u32,
 ) -> Outcome
     requires { ⌜ Ready (codeOf (now words) 0) allowed part (now marks) (now costs) (now depths) ⌝ }
-    ensures { λ r. ⌜ Scans (codeOf (now (words .entry)) 0) allowed part total (now (marks .entry)) r (now (marks .exit)) (now (costs .exit)) (now (depths .exit)) ⌝ }
+    ensures { λ r. ⌜ Scans (codeOf (now (words .entry)) 0) (rulesOf allowed) part total (now (marks .entry)) r (now (marks .exit)) (now (costs .exit)) (now (depths .exit)) ⌝ }
 {
     let end = part.to.0;
     let mut p = part.from.0;
@@ -352,8 +352,8 @@ pub(crate) fn scan_main(
     marks: &mut [bool; 512],
     part: Part,
 ) -> Scan
-    requires { ⌜ (part .to .0 ≤ length (now words)) × (length (now words) ≤ 512) × Weighs allowed part × Under allowed (deepOf (part .opens)) × Small allowed × (length (now marks) ≡ 512) ⌝ }
-    ensures { λ r. ⌜ scanned r (now (marks .exit)) ≡ scanOf (codeOf (now (words .entry)) 0) allowed part 0 (now (marks .entry)) ⌝ }
+    requires { ⌜ (part .to .0 ≤ length (now words)) × (length (now words) ≤ 512) × Weighs allowed part × Under (rulesOf allowed) (deepOf (part .opens)) × Small allowed × (length (now marks) ≡ 512) ⌝ }
+    ensures { λ r. ⌜ scanned r (now (marks .exit)) ≡ scanOf (codeOf (now (words .entry)) 0) (rulesOf allowed) part 0 (now (marks .entry)) ⌝ }
 {
     let mut costs = [0u32; 512];
     let mut depths = [0u32; 512];

@@ -255,7 +255,7 @@ enter-passed-again-requires : (t : ℕ) → enter-lts.Need-passed-again-requires
 enter-passed-again-requires t c κs =
     let k = c .before .before .before .before .before .before in
     let C = codeOf (k .args .words .now) 0 in
-    let g = fits-known C (k .args .allowed) (k .args .part) (k .args .total) (getD (k .args .costs .now) (k .args .p) 0) (c .before .before .deep-at .result) (k .args .marks .now) (sym (c .before .fits-again .ensures) ∙ c .if1 .taken) in
+    let g = fits-known C (rulesOf (k .args .allowed)) (k .args .part) (k .args .total) (getD (k .args .costs .now) (k .args .p) 0) (c .before .before .deep-at .result) (k .args .marks .now) (sym (c .before .fits-again .ensures) ∙ c .if1 .taken) in
     (g .room, g .fits)
 
 enter-returns : (t : ℕ) → enter-lts.Need-returns (enter-claims t) (enter-at t) enter.Post
@@ -263,7 +263,7 @@ enter-returns t c =
     let k = c .before .before .before .before .before .before .before in
     let C = codeOf (k .args .words .now) 0 in
     let d = c .before .before .before .deep-at .ensures in
-    let g = fits-known C (k .args .allowed) (k .args .part) (k .args .total) (getD (k .args .costs .now) (k .args .p) 0) (c .before .before .before .deep-at .result) (k .args .marks .now) (sym (c .before .before .fits-again .ensures) ∙ c .before .if1 .taken) in
+    let g = fits-known C (rulesOf (k .args .allowed)) (k .args .part) (k .args .total) (getD (k .args .costs .now) (k .args .p) 0) (c .before .before .before .deep-at .result) (k .args .marks .now) (sym (c .before .before .fits-again .ensures) ∙ c .before .if1 .taken) in
     recalled-scans C (k .args .allowed) (k .args .part) (k .args .total) (k .args .p) (k .args .marks .now) (k .pre .1 .0) (k .pre .1 .1) (rw d at g) (c .passed-again .ensures ∙ ap (λ y. passedAgain (k .args .part) (k .args .total) (getD (k .args .costs .now) (k .args .p) 0) y) d)
 
 enter-descend-requires : (t : ℕ) → enter-lts.Need-descend-requires (enter-claims t) (enter-at t) enter.Post
@@ -292,7 +292,7 @@ enter-both-passed-again-requires : (t : ℕ) → enter-both-lts.Need-passed-agai
 enter-both-passed-again-requires t c κs =
     let k = c .before .before .before .before .before .before .before in
     let C = codeOf (k .args .words .now) 0 in
-    let g = fits-known C (k .args .allowed) (k .args .yes) (k .args .total) (getD (k .args .costs .now) (k .args .p) 0) (c .before .before .before .deep-at .result) (k .args .marks .now) (sym (c .before .fits-again .ensures) ∙ both (not (k .args .yes .opens .looped)) (c .before .fits-again .result) (c .if1 .taken) .1) in
+    let g = fits-known C (rulesOf (k .args .allowed)) (k .args .yes) (k .args .total) (getD (k .args .costs .now) (k .args .p) 0) (c .before .before .before .deep-at .result) (k .args .marks .now) (sym (c .before .fits-again .ensures) ∙ both (not (k .args .yes .opens .looped)) (c .before .fits-again .result) (c .if1 .taken) .1) in
     (g .room, g .fits)
 
 enter-both-returns : (t : ℕ) → enter-both-lts.Need-returns (enter-both-claims t) (enter-both-at t) enter-both.Post
@@ -300,7 +300,7 @@ enter-both-returns t c =
     let k = c .before .before .before .before .before .before .before .before in
     let C = codeOf (k .args .words .now) 0 in
     let d = c .before .before .before .before .deep-at .ensures in
-    let g = fits-known C (k .args .allowed) (k .args .yes) (k .args .total) (getD (k .args .costs .now) (k .args .p) 0) (c .before .before .before .before .deep-at .result) (k .args .marks .now) (sym (c .before .before .fits-again .ensures) ∙ both (not (k .args .yes .opens .looped)) (c .before .before .fits-again .result) (c .before .if1 .taken) .1) in
+    let g = fits-known C (rulesOf (k .args .allowed)) (k .args .yes) (k .args .total) (getD (k .args .costs .now) (k .args .p) 0) (c .before .before .before .before .deep-at .result) (k .args .marks .now) (sym (c .before .before .fits-again .ensures) ∙ both (not (k .args .yes .opens .looped)) (c .before .before .fits-again .result) (c .before .if1 .taken) .1) in
     recalled-both-scans C (k .args .allowed) (k .args .yes) (k .args .next) (k .args .total) (k .args .p) (k .args .marks .now) (k .pre .1 .0) (k .pre .1 .2) (not-true _ (both (not (k .args .yes .opens .looped)) (c .before .before .fits-again .result) (c .before .if1 .taken) .0)) (rw d at g) (c .passed-again .ensures ∙ ap (λ y. passedAgain (k .args .yes) (k .args .total) (getD (k .args .costs .now) (k .args .p) 0) y) d)
 
 enter-both-descend-both-requires : (t : ℕ) → enter-both-lts.Need-descend-both-requires (enter-both-claims t) (enter-both-at t) enter-both.Post
@@ -453,7 +453,7 @@ enter-requires t c κs =
     let q = c .before .before .before .before .before .before .before .before .before .before .before .before .before .before .before .before .loop in
     let C = codeOf (k .args .words .now) 0 in
     let f = fits-at C (k .args .allowed) (k .args .part .opens) (k .args .part .weight) (q .p) (k .args .part .to .0) (c .before .before .before .before .before .before .before .before .before .before .before .before .before .before .before .loop-test .taken) (k .pre .1 .within) (k .pre .1 .weighs) (k .pre .1 .under) (sym (c .before .before .before .before .inner .given .1) ∙ c .before .before .before .before .before .before .look-at .ensures) in
-    (omega (arith, f .0 .smaller, later C (rulesOf (k .args .allowed)) (k .args .part .opens) (k .args .part .from .0) (q .p) (k .args .part .to .0) (q .inv .from), k .pre .0), (ready-part C (k .args .allowed) (k .args .part) (k .args .total) (k .args .marks .now) (k .pre .1 .within) (k .pre .1 .few) (q .inv) (c .before .before .before .before .before .before .before .before .before .before .before .before .before .before .before .loop-test .taken) (c .before .before .before .before .before .before .before .before .before .before .before .before .if1 .left) _ (f .0 .within) (f .0 .weighs) (f .0 .under) (k .pre .1 .small), asks-one C (k .args .allowed) (k .args .part .opens) (k .args .part .weight) (q .p) (k .args .part .to .0) (sym (c .before .before .before .before .inner .given .1) ∙ c .before .before .before .before .before .before .look-at .ensures), omega (arith, c .before .before .before .before .before .before .before .before .before .before .before .before .before .before .before .loop-test .taken, k .pre .1 .within, k .pre .1 .few)))
+    (omega (arith, f .0 .smaller, later C (rulesOf (k .args .allowed)) (k .args .part .opens) (k .args .part .from .0) (q .p) (k .args .part .to .0) (q .inv .from), k .pre .0), (ready-part C (k .args .allowed) (k .args .part) (k .args .total) (k .args .marks .now) (k .pre .1 .within) (k .pre .1 .few) (q .inv) (c .before .before .before .before .before .before .before .before .before .before .before .before .before .before .before .loop-test .taken) (c .before .before .before .before .before .before .before .before .before .before .before .before .if1 .left) _ (f .0 .within) (f .0 .weighs) (f .0 .under) (k .pre .1 .small), asks-one C (rulesOf (k .args .allowed)) (k .args .part .opens) (k .args .part .weight) (q .p) (k .args .part .to .0) (sym (c .before .before .before .before .inner .given .1) ∙ c .before .before .before .before .before .before .look-at .ensures), omega (arith, c .before .before .before .before .before .before .before .before .before .before .before .before .before .before .before .loop-test .taken, k .pre .1 .within, k .pre .1 .few)))
 
 enum-known-gone : (t : ℕ) → scan-part-lts.Need-enum-known-gone (claims t) (scan-part-at t) scan-part.Post Inv-loop μ-loop
 enum-known-gone t c = search needs
@@ -496,7 +496,7 @@ enter-both-requires t c κs =
     let q = c .before .before .before .before .before .before .before .before .before .before .before .before .before .before .before .before .loop in
     let C = codeOf (k .args .words .now) 0 in
     let f = fits-at C (k .args .allowed) (k .args .part .opens) (k .args .part .weight) (q .p) (k .args .part .to .0) (c .before .before .before .before .before .before .before .before .before .before .before .before .before .before .before .loop-test .taken) (k .pre .1 .within) (k .pre .1 .weighs) (k .pre .1 .under) (sym (c .before .before .before .before .yes .given .1) ∙ c .before .before .before .before .before .before .look-at .ensures) in
-    (omega (arith, max-lt (f .0 .smaller) (f .1 .smaller), later C (rulesOf (k .args .allowed)) (k .args .part .opens) (k .args .part .from .0) (q .p) (k .args .part .to .0) (q .inv .from), k .pre .0), (ready-part C (k .args .allowed) (k .args .part) (k .args .total) (k .args .marks .now) (k .pre .1 .within) (k .pre .1 .few) (q .inv) (c .before .before .before .before .before .before .before .before .before .before .before .before .before .before .before .loop-test .taken) (c .before .before .before .before .before .before .before .before .before .before .before .before .if1 .left) _ (f .0 .within) (f .0 .weighs) (f .0 .under) (k .pre .1 .small), f .1 .within, asks-both C (k .args .allowed) (k .args .part .opens) (k .args .part .weight) (q .p) (k .args .part .to .0) (sym (c .before .before .before .before .yes .given .1) ∙ c .before .before .before .before .before .before .look-at .ensures), omega (arith, c .before .before .before .before .before .before .before .before .before .before .before .before .before .before .before .loop-test .taken, k .pre .1 .within, k .pre .1 .few)))
+    (omega (arith, max-lt (f .0 .smaller) (f .1 .smaller), later C (rulesOf (k .args .allowed)) (k .args .part .opens) (k .args .part .from .0) (q .p) (k .args .part .to .0) (q .inv .from), k .pre .0), (ready-part C (k .args .allowed) (k .args .part) (k .args .total) (k .args .marks .now) (k .pre .1 .within) (k .pre .1 .few) (q .inv) (c .before .before .before .before .before .before .before .before .before .before .before .before .before .before .before .loop-test .taken) (c .before .before .before .before .before .before .before .before .before .before .before .before .if1 .left) _ (f .0 .within) (f .0 .weighs) (f .0 .under) (k .pre .1 .small), f .1 .within, asks-both C (rulesOf (k .args .allowed)) (k .args .part .opens) (k .args .part .weight) (q .p) (k .args .part .to .0) (sym (c .before .before .before .before .yes .given .1) ∙ c .before .before .before .before .before .before .look-at .ensures), omega (arith, c .before .before .before .before .before .before .before .before .before .before .before .before .before .before .before .loop-test .taken, k .pre .1 .within, k .pre .1 .few)))
 
 enum-known-gone-2 : (t : ℕ) → scan-part-lts.Need-enum-known-gone-2 (claims t) (scan-part-at t) scan-part.Post Inv-loop μ-loop
 enum-known-gone-2 t c = search needs

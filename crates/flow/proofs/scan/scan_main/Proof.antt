@@ -1,6 +1,6 @@
 -- `scan::scan_main` meets its contract: nothing is remembered before. Assumes nothing.
-use borrow.Author.Needs.{needs}
 use Rattle.flow.specs.Flow.{codeOf}
+use Rattle.flow.specs.Inside.{rulesOf}
 use Rattle.flow.proofs.Remembering.{memory-none}
 use Rattle.flow.proofs.scan.scan_main.Statement.{statement}
 use Rattle.flow.proofs.scan.scan_main.Tie as tie
@@ -16,7 +16,7 @@ scan-part-requires c κs =
       under = k .pre .3;
       small = k .pre .4;
       long = k .pre .5;
-      memory = memory-none C (k .args .allowed) (k .args .marks .now);
+      memory = memory-none C (rulesOf (k .args .allowed)) (k .args .marks .now);
     }
 
 returns : tie.Need-returns
