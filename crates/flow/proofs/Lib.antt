@@ -11,6 +11,7 @@ pub mod Stops
 pub mod Replay
 pub mod Passing
 pub mod Remembering
+pub mod PassedOnce
 pub mod Standing
 pub mod Tests
 pub mod Trials

@@ -9,7 +9,7 @@ use lib.ListN.{getD}
 use Rattle.flow.specs.Flow.{codeOf}
 use Rattle.flow.specs.Inside.{rulesOf, afterPart, goesOn, passedAgain}
 use Rattle.flow.specs.Visits.{size}
-use Rattle.flow.proofs.Looks.{light, heavy, later, fits-at}
+use Rattle.flow.proofs.Looks.{light, heavy, later, fits-at, weighs-at}
 use Rattle.flow.proofs.Remembering.{asks-one, asks-both, fits-known}
 use Rattle.flow.proofs.Standing.{Standing, standing-first, standing-end, standing-27, standing-known, standing-next, standing-refuse, one-stopped, one-passed, two-stopped, two-passed, ready-part, ready-second, few-beyond, recalled-scans, remembered-scans, recalled-both-scans, both-stopped, both-stopped-2, left-both, both-passed, both-remembered}
 use Rattle.flow.proofs.Tests.{both, not-true}
@@ -452,8 +452,8 @@ enter-requires t c κs =
     let k = c .before .before .before .before .before .before .before .before .before .before .before .before .before .before .before .before .before .before .before in
     let q = c .before .before .before .before .before .before .before .before .before .before .before .before .before .before .before .before .loop in
     let C = codeOf (k .args .words .now) 0 in
-    let f = fits-at C (k .args .allowed) (k .args .part .opens) (k .args .part .weight) (q .p) (k .args .part .to .0) (c .before .before .before .before .before .before .before .before .before .before .before .before .before .before .before .loop-test .taken) (k .pre .1 .within) (k .pre .1 .weighs) (k .pre .1 .under) (sym (c .before .before .before .before .inner .given .1) ∙ c .before .before .before .before .before .before .look-at .ensures) in
-    (omega (arith, f .0 .smaller, later C (rulesOf (k .args .allowed)) (k .args .part .opens) (k .args .part .from .0) (q .p) (k .args .part .to .0) (q .inv .from), k .pre .0), (ready-part C (k .args .allowed) (k .args .part) (k .args .total) (k .args .marks .now) (k .pre .1 .within) (k .pre .1 .few) (q .inv) (c .before .before .before .before .before .before .before .before .before .before .before .before .before .before .before .loop-test .taken) (c .before .before .before .before .before .before .before .before .before .before .before .before .if1 .left) _ (f .0 .within) (f .0 .weighs) (f .0 .under) (k .pre .1 .small), asks-one C (rulesOf (k .args .allowed)) (k .args .part .opens) (k .args .part .weight) (q .p) (k .args .part .to .0) (sym (c .before .before .before .before .inner .given .1) ∙ c .before .before .before .before .before .before .look-at .ensures), omega (arith, c .before .before .before .before .before .before .before .before .before .before .before .before .before .before .before .loop-test .taken, k .pre .1 .within, k .pre .1 .few)))
+    let f = fits-at C (rulesOf (k .args .allowed)) (k .args .part .opens) (k .args .part .weight) (q .p) (k .args .part .to .0) (c .before .before .before .before .before .before .before .before .before .before .before .before .before .before .before .loop-test .taken) (k .pre .1 .within) (k .pre .1 .under) (sym (c .before .before .before .before .inner .given .1) ∙ c .before .before .before .before .before .before .look-at .ensures) in
+    (omega (arith, f .0 .smaller, later C (rulesOf (k .args .allowed)) (k .args .part .opens) (k .args .part .from .0) (q .p) (k .args .part .to .0) (q .inv .from), k .pre .0), (ready-part C (k .args .allowed) (k .args .part) (k .args .total) (k .args .marks .now) (k .pre .1 .within) (k .pre .1 .few) (q .inv) (c .before .before .before .before .before .before .before .before .before .before .before .before .before .before .before .loop-test .taken) (c .before .before .before .before .before .before .before .before .before .before .before .before .if1 .left) _ (f .0 .within) (weighs-at C (k .args .allowed) (k .args .part .opens) (k .args .part .weight) (q .p) (k .args .part .to .0) (k .pre .1 .weighs) (sym (c .before .before .before .before .inner .given .1) ∙ c .before .before .before .before .before .before .look-at .ensures)) (f .0 .under) (k .pre .1 .small), asks-one C (rulesOf (k .args .allowed)) (k .args .part .opens) (k .args .part .weight) (q .p) (k .args .part .to .0) (sym (c .before .before .before .before .inner .given .1) ∙ c .before .before .before .before .before .before .look-at .ensures), omega (arith, c .before .before .before .before .before .before .before .before .before .before .before .before .before .before .before .loop-test .taken, k .pre .1 .within, k .pre .1 .few)))
 
 enum-known-gone : (t : ℕ) → scan-part-lts.Need-enum-known-gone (claims t) (scan-part-at t) scan-part.Post Inv-loop μ-loop
 enum-known-gone t c = search needs
@@ -476,7 +476,7 @@ loop-less-3 t c =
     let k = c .before .before .before .before .before .before .before .before .before .before .before .before .before .before .before .before .before .before .before .before .before .before .before .before in
     let q = c .before .before .before .before .before .before .before .before .before .before .before .before .before .before .before .before .before .before .before .before .before .loop in
     let C = codeOf (k .args .words .now) 0 in
-    let f = fits-at C (k .args .allowed) (k .args .part .opens) (k .args .part .weight) (q .p) (k .args .part .to .0) (c .before .before .before .before .before .before .before .before .before .before .before .before .before .before .before .before .before .before .before .before .loop-test .taken) (k .pre .1 .within) (k .pre .1 .weighs) (k .pre .1 .under) (sym (c .before .before .before .before .before .before .before .before .before .inner .given .1) ∙ c .before .before .before .before .before .before .before .before .before .before .before .look-at .ensures) in
+    let f = fits-at C (rulesOf (k .args .allowed)) (k .args .part .opens) (k .args .part .weight) (q .p) (k .args .part .to .0) (c .before .before .before .before .before .before .before .before .before .before .before .before .before .before .before .before .before .before .before .before .loop-test .taken) (k .pre .1 .within) (k .pre .1 .under) (sym (c .before .before .before .before .before .before .before .before .before .inner .given .1) ∙ c .before .before .before .before .before .before .before .before .before .before .before .look-at .ensures) in
     omega (arith, f .1)
 
 loop-again-3 : (t : ℕ) → scan-part-lts.Need-loop-again-3 (claims t) (scan-part-at t) scan-part.Post Inv-loop μ-loop
@@ -484,7 +484,7 @@ loop-again-3 t c =
     let k = c .before .before .before .before .before .before .before .before .before .before .before .before .before .before .before .before .before .before .before .before .before .before .before .before in
     let q = c .before .before .before .before .before .before .before .before .before .before .before .before .before .before .before .before .before .before .before .before .before .loop in
     let C = codeOf (k .args .words .now) 0 in
-    let f = fits-at C (k .args .allowed) (k .args .part .opens) (k .args .part .weight) (q .p) (k .args .part .to .0) (c .before .before .before .before .before .before .before .before .before .before .before .before .before .before .before .before .before .before .before .before .loop-test .taken) (k .pre .1 .within) (k .pre .1 .weighs) (k .pre .1 .under) (sym (c .before .before .before .before .before .before .before .before .before .inner .given .1) ∙ c .before .before .before .before .before .before .before .before .before .before .before .look-at .ensures) in
+    let f = fits-at C (rulesOf (k .args .allowed)) (k .args .part .opens) (k .args .part .weight) (q .p) (k .args .part .to .0) (c .before .before .before .before .before .before .before .before .before .before .before .before .before .before .before .before .before .before .before .before .loop-test .taken) (k .pre .1 .within) (k .pre .1 .under) (sym (c .before .before .before .before .before .before .before .before .before .inner .given .1) ∙ c .before .before .before .before .before .before .before .before .before .before .before .look-at .ensures) in
     one-passed C (k .args .allowed) (k .args .part) (k .args .total) (k .args .marks .now) (k .pre .1 .within) (k .pre .1 .few) (q .inv) (c .before .before .before .before .before .before .before .before .before .before .before .before .before .before .before .before .before .before .before .before .loop-test .taken) (c .before .before .before .before .before .before .before .before .before .before .before .before .before .before .before .before .before .if1 .left) (sym (c .before .before .before .before .before .before .before .before .before .inner .given .1) ∙ c .before .before .before .before .before .before .before .before .before .before .before .look-at .ensures) (c .before .before .before .before .enter .ensures) (omega (arith, f .1)) (omega arith) (c .before .before .gone .given .1) (c .deepest-of .ensures)
 
 enum-known-yes : (t : ℕ) → scan-part-lts.Need-enum-known-yes (claims t) (scan-part-at t) scan-part.Post Inv-loop μ-loop
@@ -495,8 +495,8 @@ enter-both-requires t c κs =
     let k = c .before .before .before .before .before .before .before .before .before .before .before .before .before .before .before .before .before .before .before in
     let q = c .before .before .before .before .before .before .before .before .before .before .before .before .before .before .before .before .loop in
     let C = codeOf (k .args .words .now) 0 in
-    let f = fits-at C (k .args .allowed) (k .args .part .opens) (k .args .part .weight) (q .p) (k .args .part .to .0) (c .before .before .before .before .before .before .before .before .before .before .before .before .before .before .before .loop-test .taken) (k .pre .1 .within) (k .pre .1 .weighs) (k .pre .1 .under) (sym (c .before .before .before .before .yes .given .1) ∙ c .before .before .before .before .before .before .look-at .ensures) in
-    (omega (arith, max-lt (f .0 .smaller) (f .1 .smaller), later C (rulesOf (k .args .allowed)) (k .args .part .opens) (k .args .part .from .0) (q .p) (k .args .part .to .0) (q .inv .from), k .pre .0), (ready-part C (k .args .allowed) (k .args .part) (k .args .total) (k .args .marks .now) (k .pre .1 .within) (k .pre .1 .few) (q .inv) (c .before .before .before .before .before .before .before .before .before .before .before .before .before .before .before .loop-test .taken) (c .before .before .before .before .before .before .before .before .before .before .before .before .if1 .left) _ (f .0 .within) (f .0 .weighs) (f .0 .under) (k .pre .1 .small), f .1 .within, asks-both C (rulesOf (k .args .allowed)) (k .args .part .opens) (k .args .part .weight) (q .p) (k .args .part .to .0) (sym (c .before .before .before .before .yes .given .1) ∙ c .before .before .before .before .before .before .look-at .ensures), omega (arith, c .before .before .before .before .before .before .before .before .before .before .before .before .before .before .before .loop-test .taken, k .pre .1 .within, k .pre .1 .few)))
+    let f = fits-at C (rulesOf (k .args .allowed)) (k .args .part .opens) (k .args .part .weight) (q .p) (k .args .part .to .0) (c .before .before .before .before .before .before .before .before .before .before .before .before .before .before .before .loop-test .taken) (k .pre .1 .within) (k .pre .1 .under) (sym (c .before .before .before .before .yes .given .1) ∙ c .before .before .before .before .before .before .look-at .ensures) in
+    (omega (arith, max-lt (f .0 .smaller) (f .1 .smaller), later C (rulesOf (k .args .allowed)) (k .args .part .opens) (k .args .part .from .0) (q .p) (k .args .part .to .0) (q .inv .from), k .pre .0), (ready-part C (k .args .allowed) (k .args .part) (k .args .total) (k .args .marks .now) (k .pre .1 .within) (k .pre .1 .few) (q .inv) (c .before .before .before .before .before .before .before .before .before .before .before .before .before .before .before .loop-test .taken) (c .before .before .before .before .before .before .before .before .before .before .before .before .if1 .left) _ (f .0 .within) (weighs-at C (k .args .allowed) (k .args .part .opens) (k .args .part .weight) (q .p) (k .args .part .to .0) (k .pre .1 .weighs) (sym (c .before .before .before .before .yes .given .1) ∙ c .before .before .before .before .before .before .look-at .ensures)) (f .0 .under) (k .pre .1 .small), f .1 .within, asks-both C (rulesOf (k .args .allowed)) (k .args .part .opens) (k .args .part .weight) (q .p) (k .args .part .to .0) (sym (c .before .before .before .before .yes .given .1) ∙ c .before .before .before .before .before .before .look-at .ensures), omega (arith, c .before .before .before .before .before .before .before .before .before .before .before .before .before .before .before .loop-test .taken, k .pre .1 .within, k .pre .1 .few)))
 
 enum-known-gone-2 : (t : ℕ) → scan-part-lts.Need-enum-known-gone-2 (claims t) (scan-part-at t) scan-part.Post Inv-loop μ-loop
 enum-known-gone-2 t c = search needs
@@ -519,7 +519,7 @@ loop-less-4 t c =
     let k = c .before .before .before .before .before .before .before .before .before .before .before .before .before .before .before .before .before .before .before .before .before .before .before .before in
     let q = c .before .before .before .before .before .before .before .before .before .before .before .before .before .before .before .before .before .before .before .before .before .loop in
     let C = codeOf (k .args .words .now) 0 in
-    let f = fits-at C (k .args .allowed) (k .args .part .opens) (k .args .part .weight) (q .p) (k .args .part .to .0) (c .before .before .before .before .before .before .before .before .before .before .before .before .before .before .before .before .before .before .before .before .loop-test .taken) (k .pre .1 .within) (k .pre .1 .weighs) (k .pre .1 .under) (sym (c .before .before .before .before .before .before .before .before .before .yes .given .1) ∙ c .before .before .before .before .before .before .before .before .before .before .before .look-at .ensures) in
+    let f = fits-at C (rulesOf (k .args .allowed)) (k .args .part .opens) (k .args .part .weight) (q .p) (k .args .part .to .0) (c .before .before .before .before .before .before .before .before .before .before .before .before .before .before .before .before .before .before .before .before .loop-test .taken) (k .pre .1 .within) (k .pre .1 .under) (sym (c .before .before .before .before .before .before .before .before .before .yes .given .1) ∙ c .before .before .before .before .before .before .before .before .before .before .before .look-at .ensures) in
     omega (arith, f .2)
 
 loop-again-4 : (t : ℕ) → scan-part-lts.Need-loop-again-4 (claims t) (scan-part-at t) scan-part.Post Inv-loop μ-loop
@@ -527,7 +527,7 @@ loop-again-4 t c =
     let k = c .before .before .before .before .before .before .before .before .before .before .before .before .before .before .before .before .before .before .before .before .before .before .before .before in
     let q = c .before .before .before .before .before .before .before .before .before .before .before .before .before .before .before .before .before .before .before .before .before .loop in
     let C = codeOf (k .args .words .now) 0 in
-    let f = fits-at C (k .args .allowed) (k .args .part .opens) (k .args .part .weight) (q .p) (k .args .part .to .0) (c .before .before .before .before .before .before .before .before .before .before .before .before .before .before .before .before .before .before .before .before .loop-test .taken) (k .pre .1 .within) (k .pre .1 .weighs) (k .pre .1 .under) (sym (c .before .before .before .before .before .before .before .before .before .yes .given .1) ∙ c .before .before .before .before .before .before .before .before .before .before .before .look-at .ensures) in
+    let f = fits-at C (rulesOf (k .args .allowed)) (k .args .part .opens) (k .args .part .weight) (q .p) (k .args .part .to .0) (c .before .before .before .before .before .before .before .before .before .before .before .before .before .before .before .before .before .before .before .before .loop-test .taken) (k .pre .1 .within) (k .pre .1 .under) (sym (c .before .before .before .before .before .before .before .before .before .yes .given .1) ∙ c .before .before .before .before .before .before .before .before .before .before .before .look-at .ensures) in
     two-passed C (k .args .allowed) (k .args .part) (k .args .total) (k .args .marks .now) (k .pre .1 .within) (k .pre .1 .few) (q .inv) (c .before .before .before .before .before .before .before .before .before .before .before .before .before .before .before .before .before .before .before .before .loop-test .taken) (c .before .before .before .before .before .before .before .before .before .before .before .before .before .before .before .before .before .if1 .left) (sym (c .before .before .before .before .before .before .before .before .before .yes .given .1) ∙ c .before .before .before .before .before .before .before .before .before .before .before .look-at .ensures) (c .before .before .before .before .enter-both .ensures) (omega (arith, f .2)) (omega arith) (c .before .before .gone2 .given .1) (c .deepest-of2 .ensures)
 
 returns-5 : (t : ℕ) → scan-part-lts.Need-returns-5 (claims t) (scan-part-at t) scan-part.Post Inv-loop μ-loop
