@@ -157,7 +157,7 @@ fn nested_in_calls() -> Content {
     main_only(words)
 }
 
-/// 257 calls of 34 calls of 220 calls of END: of 73,781 visits 72,758 meet a call that was made before, near the most that 512 words and a total of 4,000,000 allow.
+/// 257 calls of 34 calls of 220 calls of END: of 73,781 visits 72,758 meet a call that was made before, the most found by hand.
 fn calls_in_calls() -> Content {
     let mut words = vec![aimed(CALL, 257, 255); 257];
     words.extend([aimed(CALL, 291, 221); 34]);
