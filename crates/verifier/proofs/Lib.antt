@@ -2,6 +2,7 @@ pub mod Lists
 pub mod Ones
 pub mod Placing
 pub mod Stages
+pub mod Sharing
 pub mod Clean
 pub mod Promise
 pub mod Answers

@@ -81,7 +81,7 @@ module _ {file ws : List ℕ} {l : Library} (known : Loaded file l ws) where
   short : length file ≤ 65536
   short = clean-library file (known .passed) .no1
 
-  sizes : (1 ≤ length ws) × (length ws ≤ 512) × (length ws ≡ l .program .words .count)
+  pub sizes : (1 ≤ length ws) × (length ws ≤ 512) × (length ws ≡ l .program .words .count)
   sizes =
       let (a, b, c) = clean-library file (known .passed) .no7 in
       let n : length ws ≡ l .program .words .count = ap length (known .words) ∙ length-list _ 0 _ in

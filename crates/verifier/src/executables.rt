@@ -3,10 +3,14 @@ ghost use mathlib.Core.Path.{_≡_};
 ghost use Prim.Native.Nat.{_+_, _*_, _-_, _≤_};
 ghost use Rattle.answer.specs.Answers.{given};
 ghost use Rattle.answer.specs.Faults.{firstIn};
-ghost use Rattle.tables.specs.Names.{namesEnd};
-ghost use Rattle.verifier.specs.Executables.{entryAt, symbolsOf, oneExecutable, noReport, reportWith, reportOf};
+ghost use Rattle.verifier.specs.Executables.{entryAt, oneExecutable, noReport, reportWith, reportOf};
 ghost use Rattle.verifier.specs.Lists.{filled};
 ghost use Rattle.verifier.specs.Inside.{Loaded, judgedBy};
+use crate::earlier::Earlier;
+use crate::earlier::flow_after;
+use crate::earlier::good_in;
+use crate::earlier::names_after;
+use crate::earlier::none_earlier;
 use crate::verdict::Checked;
 use crate::verdict::Judged;
 use crate::verdict::Library;
@@ -15,18 +19,14 @@ use crate::verdict::no_report;
 use crate::verdict::refused;
 use answer::Fault;
 use binary::ByteOffset;
-use binary::Range;
-use binary::bytes_of;
 use binary::tail;
 use container::Executable;
 use container::Table;
 use container::executable_fault;
 use container::executable_of;
 use flow::Flow;
-use flow::flow_of;
 use tables::constant_fault;
 use tables::label_fault;
-use tables::names_end;
 use tables::output_fault;
 use tables::uniform_fault;
 
@@ -36,18 +36,6 @@ fn entry_of(file: &[u8], table: Table, size: u64, entry: u32) -> &[u8]
     ensures { λ r. ⌜ now r ≡ entryAt (now (file .entry)) table size entry ⌝ }
 {
     tail(file, ByteOffset(table.start.0 + entry as u64 * size))
-}
-
-// Where the good names of a symbol table end.
-fn names_end_of(file: &[u8], symbols: Table) -> u64
-    ensures { λ r. ⌜ r ≡ namesEnd (symbolsOf (now (file .entry)) symbols) ⌝ }
-{
-    let start = symbols.start;
-    let range = Range {
-        start,
-        size: symbols.count as u64,
-    };
-    names_end(bytes_of(file, range))
 }
 
 fn report_with(e: Executable, total: u32, words: u32) -> Report
@@ -68,7 +56,7 @@ fn report_with(e: Executable, total: u32, words: u32) -> Report
 }
 
 // 13 to 28 of the executables from `first` up to `end`, in their order, and the reports of these: one executable alone is a range of one.
-// `Accepted` says that these have no fault; of the others it says nothing.
+// What an executable shares with the one before it is not judged again. `Accepted` says that these have no fault; of the others it says nothing.
 pub(crate) fn judge_executables(
     file: &[u8],
     library: Library,
@@ -82,6 +70,7 @@ pub(crate) fn judge_executables(
     let count = library.program.words.count;
     let mut found = Fault::Nothing;
     let mut reports = [no_report(); 16];
+    let mut earlier = none_earlier(file, words);
     'executables: for index in first..end {
         let place = index * 65536;
         found = executable_fault(file, library.program.words, index, 1, place);
@@ -92,8 +81,11 @@ pub(crate) fn judge_executables(
             break 'executables;
         }
         let e = executable_of(file, index);
-        let names = names_end_of(file, e.symbols);
-        for entry in 0..e.constants.count {
+        let good = earlier.executable;
+        let names = names_after(file, earlier, e.symbols);
+        let same_names = names == earlier.names;
+        let known = good_in(true, good.constants, e.constants);
+        for entry in known..e.constants.count {
             found = constant_fault(entry_of(file, e.constants, 20, entry), place + entry);
             if let Fault::At {
                 number: _,
@@ -102,7 +94,8 @@ pub(crate) fn judge_executables(
                 break 'executables;
             }
         }
-        for entry in 0..e.labels.count {
+        let known = good_in(same_names, good.labels, e.labels);
+        for entry in known..e.labels.count {
             found = label_fault(
                 entry_of(file, e.labels, 16, entry),
                 count,
@@ -116,7 +109,8 @@ pub(crate) fn judge_executables(
                 break 'executables;
             }
         }
-        for entry in 0..e.outputs.count {
+        let known = good_in(true, good.outputs, e.outputs);
+        for entry in known..e.outputs.count {
             found = output_fault(entry_of(file, e.outputs, 8, entry), place + entry);
             if let Fault::At {
                 number: _,
@@ -125,7 +119,8 @@ pub(crate) fn judge_executables(
                 break 'executables;
             }
         }
-        for entry in 0..e.uniforms.count {
+        let known = good_in(same_names, good.uniforms, e.uniforms);
+        for entry in known..e.uniforms.count {
             found = uniform_fault(entry_of(file, e.uniforms, 8, entry), names, place + entry);
             if let Fault::At {
                 number: _,
@@ -134,7 +129,8 @@ pub(crate) fn judge_executables(
                 break 'executables;
             }
         }
-        match flow_of(words, e.shader_type, e.main.0, e.endmain.0) {
+        let flow = flow_after(words, earlier, e);
+        match flow {
             Flow::Refused { number, word } => {
                 found = Fault::At {
                     number,
@@ -145,6 +141,11 @@ pub(crate) fn judge_executables(
             Flow::Passed { total, words } => {
                 let i = (index - first) as usize;
                 reports[i] = report_with(e, total, words);
+                earlier = Earlier {
+                    executable: e,
+                    names,
+                    flow,
+                };
             }
         }
     }

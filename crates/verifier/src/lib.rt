@@ -1,8 +1,10 @@
 // The whole check of a library in document 01's order, and the reports of its executables.
+mod earlier;
 mod executables;
 mod verdict;
 mod words;
 
+pub use earlier::Earlier;
 pub use verdict::Checked;
 pub use verdict::Judged;
 pub use verdict::Library;

@@ -16,7 +16,7 @@ use instruction::compare_operators_of;
 use instruction::control_of;
 use instruction::descriptor_of;
 
-fn least(a: u32, b: u32) -> u32
+pub(crate) fn least(a: u32, b: u32) -> u32
     ensures { λ r. ⌜ r ≡ min a b ⌝ }
 {
     if a < b { a } else { b }

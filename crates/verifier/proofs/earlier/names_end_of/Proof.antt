@@ -1,9 +1,9 @@
--- `executables::names_end_of` meets its contract. Assumes nothing.
+-- `earlier::names_end_of` meets its contract. Assumes nothing.
 use mathlib.Core.Path.{_≡_, ap, _∙_}
 use borrow.Author.Needs.{needs}
 use Rattle.tables.specs.Names.{namesEnd}
-use Rattle.verifier.proofs.executables.names_end_of.Statement.{statement}
-use Rattle.verifier.proofs.executables.names_end_of.Tie as tie
+use Rattle.verifier.proofs.earlier.names_end_of.Statement.{statement}
+use Rattle.verifier.proofs.earlier.names_end_of.Tie as tie
 
 returns : tie.Need-returns
 returns c = c .names-end .ensures ∙ ap namesEnd (c .before .bytes-of .ensures)
