@@ -2,17 +2,20 @@
 use mathlib.Core.Path.{_≡_, refl, sym, ap, _∙_}
 use mathlib.Core.Bool.{Bool, true, false, _||_}
 use mathlib.Core.List.{List, [], _∷_}
-use Prim.Native.Nat.{ℕ, _<_, _≤_}
+use Prim.Native.Nat.{ℕ, zero, suc, _+_, _-_, _<_, _≤_}
 use native.Mathlib.Omega.{arith}
 use lib.Dec.{ltb, eqb}
-use borrow.Author.Tests.{lt-ltb, le-ltb, eq-eqb, ne-eqb}
+use borrow.Author.Tests.{ltb-true, eqb-true, eqb-false, lt-ltb, eq-eqb, ne-eqb}
+use Rattle.instruction.specs.Control.{isBlock}
 use Rattle.instruction.specs.declared.flow_control.Control.{Control}
+use Rattle.instruction.specs.declared.flow_control.Control.the-variants.{Unknown, Plain, Emit, End, Break, If, Loop, Call, Jump}
 use Rattle.flow.specs.Inside.{afterOf}
-use Rattle.flow.specs.Own.{nextOf, spans, ownWords, has}
+use Rattle.flow.specs.Own.{nextOf, spans, ownFrom, ownWords, has}
 use Rattle.flow.specs.Rules.{Code, pick}
 use Rattle.flow.specs.declared.own.After.{After}
 use Rattle.flow.specs.declared.own.After.the-variants.{At, Stop}
 use Rattle.flow.proofs.Depth.{spans-in, own-eq}
+use Rattle.flow.proofs.Tests.{true-not-false}
 
 pub at-of : (b : Bool) {n m : ℕ} → pick b (At n) Stop ≡ At m → (b ≡ true) × (m ≡ n)
 at-of true e = (refl, cc)
@@ -22,9 +25,27 @@ pub stop-of : (b : Bool) (n : ℕ) → pick b (At n) Stop ≡ Stop → b ≡ fal
 stop-of true n e = absurd (let z : _≡_ {A = ℕ} 0 1 = cc in omega arith)
 stop-of false n e = refl
 
+own-none-to : (C : Code) (n p E d : ℕ) → (p ≤ d → E ≤ d) → false ≡ has (ownFrom C n p E) d
+unfolding ownFrom
+own-none-to C zero p E d h = refl
+own-none-to C (suc n) p E d h = by (ltb p E) refl (own-none-to C n (nextOf (C .control p) p) E d)
+  where
+    by : (b : Bool) → ltb p E ≡ b → ((nextOf (C .control p) p ≤ d → E ≤ d) → false ≡ has (ownFrom C n (nextOf (C .control p) p) E) d)
+        → false ≡ has (pick b (p ∷ pick (spans (C .control p) p E) (ownFrom C n (nextOf (C .control p) p) E) []) []) d
+    by false y ih = refl
+    by true y ih =
+        let l = ltb-true p E y in
+        rw (ne-eqb p d (λ e. omega (arith, h (omega arith)))) (on (spans (C .control p) p E) refl)
+      where
+        on : (s : Bool) → spans (C .control p) p E ≡ s → false ≡ has (pick s (ownFrom C n (nextOf (C .control p) p) E) []) d
+        on false g = refl
+        on true g = ih (λ q. h (omega (arith, spans-in (C .control p) p E (ltb-true p E y) g)))
+
 module _ (C : Code) (p E d : ℕ) where
-  pub own-past-end : E ≤ p → false ≡ has (ownWords C p E) d
-  own-past-end l = rw (own-eq C p E, le-ltb p E l)
+  -- own words ascend and are in the region: before p and from the end on there are none
+  pub own-none : (p ≤ d → E ≤ d) → false ≡ has (ownWords C p E) d
+  unfolding ownWords
+  own-none h = own-none-to C (E - p) p E d h
 
   pub own-here : p < E → p ≡ d → true ≡ has (ownWords C p E) d
   own-here l e = rw (own-eq C p E, lt-ltb p E l, eq-eqb p d e)
@@ -36,6 +57,26 @@ module _ (C : Code) (p E d : ℕ) where
 
   pub own-last : p < E → (p ≡ d → ⊥) → afterOf (C .control p) p E ≡ Stop → false ≡ has (ownWords C p E) d
   own-last l n e = rw (own-eq C p E, lt-ltb p E l, ne-eqb p d n, stop-of (spans (C .control p) p E) (nextOf (C .control p) p) e)
+
+  -- where the search ends
+  pub own-reached : d ≤ p → d < E → eqb p d ≡ has (ownWords C p E) d
+  own-reached l h = by (eqb p d) refl
+    where
+      by : (b : Bool) → eqb p d ≡ b → b ≡ has (ownWords C p E) d
+      by true e = let q = eqb-true p d e in own-here (omega arith) q
+      by false e = own-none (λ g. absurd (eqb-false p d e (omega arith)))
+
+-- after a word that is no block comes the next word
+pub after-plain : (i : Control) (p E : ℕ) → isBlock i ≡ false → afterOf i p E ≡ At (p + 1)
+after-plain Unknown p E e = refl
+after-plain Plain p E e = refl
+after-plain Emit p E e = refl
+after-plain End p E e = refl
+after-plain (Break c) p E e = refl
+after-plain (If c dst num) p E e = absurd (true-not-false e)
+after-plain (Loop r dst) p E e = absurd (true-not-false e)
+after-plain (Call c dst num) p E e = refl
+after-plain (Jump c dst num) p E e = refl
 
 -- the next own word is further on
 pub after-further : (i : Control) (p E : ℕ) {n : ℕ} → p < E → afterOf i p E ≡ At n → p < n

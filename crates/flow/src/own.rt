@@ -8,6 +8,7 @@ ghost use Rattle.flow.specs.Inside.{afterIf, afterLoop, afterOf};
 ghost use Rattle.flow.specs.Own.{ownWords, has};
 use instruction::Control;
 use instruction::control_of;
+use instruction::is_block;
 
 // The own word after another; none after an IF or LOOP with bad bounds.
 pub enum After {
@@ -59,15 +60,20 @@ pub(crate) fn own_after(words: &[u32], end: u32, p: u32) -> After
     }
 }
 
-// Whether a word is one of the own words from another on.
+// Whether a word is one of the own words from another on. These ascend, so the search ends at the word; most words are no block, and then the next word is the next own word.
 pub(crate) fn is_own(words: &[u32], end: u32, from: u32, word: u32) -> bool
     requires { ⌜ end ≤ length (now words) ⌝ }
     ensures { λ r. ⌜ r ≡ has (ownWords (codeOf (now (words .entry)) 0) from end) word ⌝ }
 {
+    if end <= word {
+        return false;
+    }
     let mut p = from;
-    while p < end {
-        if p == word {
-            return true;
+    while p < word {
+        let at = p as usize;
+        if !is_block(words[at]) {
+            p += 1;
+            continue;
         }
         match own_after(words, end, p) {
             After::At(next) => {
@@ -78,5 +84,5 @@ pub(crate) fn is_own(words: &[u32], end: u32, from: u32, word: u32) -> bool
             }
         }
     }
-    false
+    p == word
 }

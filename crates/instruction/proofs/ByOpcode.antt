@@ -1,23 +1,26 @@
 -- What a word's fields give, told by a range of opcodes: computed once at each opcode of the range, it holds for every word with an opcode of it. Assumes nothing.
 use mathlib.Core.Path.{_≡_, refl, sym, ap, _∙_}
-use mathlib.Core.Bool.{Bool, true, false, _||_}
+use mathlib.Core.Bool.{Bool, true, false, _&&_, _||_}
 use mathlib.Core.List.{List, [], _∷_}
 use mathlib.Core.Logic.{⊎-elim}
 use Prim.Native.Nat.{ℕ, zero, suc, _+_, _<_, _≤_}
 use native.Mathlib.Omega.{arith}
-use lib.Dec.{T, eqb, eqb→eq}
+use lib.Dec.{T, leb, eqb, eqb→eq}
 use lib.ListN.{getD, drop, replicate}
 use mir.Facts.{or-yes}
-use borrow.Author.Tests.{eqb-true, eqb-false}
+use borrow.Author.Tests.{leb-true, leb-false, eqb-true, eqb-false}
 use Rattle.answer.specs.Answers.{Answer}
 use Rattle.bits.specs.Fields.{field}
+use Rattle.bits.proofs.Laws.{field-lt}
 use Rattle.bits.proofs.Ranges.{allFrom, from-all}
-use Rattle.instruction.specs.Control.{control, controlOf, ofFormat0, ofFormat2, ofFormat3}
-use Rattle.instruction.specs.Operations.{formatOf}
+use Rattle.instruction.specs.Control.{control, controlOf, isBlock, ofFormat0, ofFormat2, ofFormat3}
+use Rattle.instruction.specs.Operations.{formatOf, operations}
 use Rattle.instruction.specs.Words.{decodeAs, decodeOf}
 use Rattle.instruction.specs.declared.decoding.Fields.{Fields}
+use Rattle.instruction.specs.declared.flow_control.Control.{Control}
+use Rattle.instruction.specs.declared.flow_control.Control.the-variants.{Unknown, Plain, Emit}
 use Rattle.instruction.specs.declared.operation.Format.{Format}
-use Rattle.instruction.specs.declared.operation.Format.the-variants.{F0, F2, F3}
+use Rattle.instruction.specs.declared.operation.Format.the-variants.{Unlisted, F0, F1, F1i, F1u, F1c, F2, F3, F4, F5, F5i}
 
 module _ {A : Type 0} where
   -- what a function gives at n numbers from lo on
@@ -72,3 +75,30 @@ module _ (w : ℕ) {op : ℕ} (e : op ≡ field 26 6 w) where
 
   pub control-of-3 : formatOf op ≡ F3 → ofFormat3 op (field 0 8 w) (field 10 12 w) (field 22 4 w) ≡ controlOf w
   control-of-3 t = ap (λ (k : ℕ). ofFormat3 k (field 0 8 w) (field 10 12 w) (field 22 4 w)) e ∙ as-format F3 t
+
+-- a word's control by its format, with the opcode that the fields hold taken out: it computes at an opcode of a range
+abbrev fromOpcode : (w : ℕ) (f : Format) → (g : ℕ → Control) × (g (field 26 6 w) ≡ control (decodeAs f w))
+fromOpcode w Unlisted = ((λ k. Unknown), refl)
+fromOpcode w F0 = (ofFormat0, refl)
+fromOpcode w F1 = ((λ k. Plain), refl)
+fromOpcode w F1i = ((λ k. Plain), refl)
+fromOpcode w F1u = ((λ k. Plain), refl)
+fromOpcode w F1c = ((λ k. Plain), refl)
+fromOpcode w F2 = ((λ k. ofFormat2 k (field 0 8 w) (field 10 12 w)), refl)
+fromOpcode w F3 = ((λ k. ofFormat3 k (field 0 8 w) (field 10 12 w) (field 22 4 w)), refl)
+fromOpcode w F4 = ((λ k. Emit), refl)
+fromOpcode w F5 = ((λ k. Plain), refl)
+fromOpcode w F5i = ((λ k. Plain), refl)
+
+-- IF and LOOP have the opcodes 27h to 29h
+pub block-of : (w : ℕ) {op : ℕ} → op ≡ field 26 6 w → (leb 0x27 op && leb op 0x29) ≡ isBlock (controlOf w)
+unfolding controlOf decodeOf formatOf operations
+block-of w {op} e = at (leb 0x27 op) (leb op 0x29) refl refl ∙ ap block e ∙ ap isBlock (fromOpcode w (formatOf (field 26 6 w)) .1)
+  where
+    block : ℕ → Bool
+    block k = isBlock (fromOpcode w (formatOf k) .0 k)
+
+    at : (a b : Bool) → leb 0x27 op ≡ a → leb op 0x29 ≡ b → (a && b) ≡ block op
+    at false b s t = one-value block false 0x00 39 refl op (omega arith) (leb-false 0x27 op s)
+    at true true s t = one-value block true 0x27 3 refl op (leb-true 0x27 op s) (omega (arith, leb-true op 0x29 t))
+    at true false s t = one-value block false 0x2a 22 refl op (leb-false op 0x29 t) (omega (arith, e, field-lt 26 6 w))

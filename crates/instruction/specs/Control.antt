@@ -56,3 +56,15 @@ control (refused n p) = Unknown
 
 unfoldable pub controlOf : ℕ → Control
 controlOf w = control (decodeOf w)
+
+-- IF or LOOP
+abbrev pub isBlock : Control → Bool
+isBlock Unknown = false
+isBlock Plain = false
+isBlock Emit = false
+isBlock End = false
+isBlock (Break c) = false
+isBlock (If c dst num) = true
+isBlock (Loop r dst) = true
+isBlock (Call c dst num) = false
+isBlock (Jump c dst num) = false

@@ -2,7 +2,7 @@
 ghost use mathlib.Core.Path.{_≡_};
 ghost use Prim.Native.Nat.{_<_, _≤_};
 ghost use Rattle.bits.specs.Fields.{field};
-ghost use Rattle.instruction.specs.Control.{controlOf};
+ghost use Rattle.instruction.specs.Control.{controlOf, isBlock};
 use binary::WordAddress;
 use bits::field;
 
@@ -73,4 +73,12 @@ pub fn control_of(word: u32) -> Control
         0x20..=0x2d => flow_control_of(op, word),
         _ => Control::Plain,
     }
+}
+
+// Whether a word is an IF or a LOOP, told by its opcode alone: a search over own words asks it of each.
+pub fn is_block(word: u32) -> bool
+    ensures { λ r. ⌜ r ≡ isBlock (controlOf word) ⌝ }
+{
+    let op = field(word, 26, 6);
+    (0x27 <= op) & (op <= 0x29)
 }

@@ -13,6 +13,7 @@ pub use encoding::encode;
 pub use flow_control::Condition;
 pub use flow_control::Control;
 pub use flow_control::control_of;
+pub use flow_control::is_block;
 pub use operand::CompareOperators;
 pub use operand::Descriptor;
 pub use operand::DescriptorId;
