@@ -5,7 +5,7 @@ use mathlib.Core.List.{List}
 use Prim.Native.Nat.{ℕ, zero, suc, _+_, _*_, _-_, _/_, _%_, _≤_, _<_}
 use native.Mathlib.Nat.{mul-div-cancel-left, le-max-left, le-max-right}
 use native.Mathlib.Omega.{arith}
-use lib.Dec.{eqb}
+use lib.Dec.{leb, eqb}
 use lib.ListN.{getD, set, replicate, length-set, length-replicate}
 use lib.Seq.{getD-set-same, getD-set-other}
 use borrow.Author.Tests.{leb-true, ltb-true, eqb-true, eqb-false}
@@ -17,7 +17,7 @@ use Rattle.instruction.specs.declared.flow_control.Control.{Control}
 use Rattle.instruction.specs.declared.flow_control.Control.the-variants.{Unknown, Plain, Emit, End, Break, If, Loop, Call, Jump}
 use Rattle.flow.specs.Inside.{unless, partOf, partsOf, lookOf, scanned, scanOf, beyond, Room, Covers, Passes, PassesBoth, Left, LeftBoth, afterPart, scanBoth, deepest, opened, Asks, AsksBoth, Recalled, packed, unpacked, deepAt, Memory, fitsAgain}
 use Rattle.flow.specs.Rules.{Code, Rules, inIf, inLoop, inCall}
-use Rattle.flow.specs.Visits.{faultAt}
+use Rattle.flow.specs.Visits.{bad24, faultAt}
 use Rattle.flow.specs.declared.look.Look.the-variants.{Next, One, Two}
 use Rattle.flow.specs.declared.look.Opens.{Opens}
 use Rattle.flow.specs.declared.look.Part.{Part}
@@ -61,25 +61,26 @@ module _ (C : Code) (R : Rules) where
   -- the parts that an IF asks for
   pub asks-both : (x : Opens) (w p E : ℕ) {r : Part} {next : WordAddress} → Two r next ≡ lookOf C R x w p E → AsksBoth (C .control p) p r next
   unfolding lookOf
-  asks-both x w p E {r} {next} e = by (faultAt C R x p E) e
+  asks-both x w p E {r} {next} e = by (faultAt C R x p E) refl e
     where
-      on : (i : Control) → Two r next ≡ partsOf R i x w p → AsksBoth i p r next
-      on Unknown g = apart (cc)
-      on Plain g = apart (cc)
-      on Emit g = apart (cc)
-      on End g = apart (cc)
-      on (Break c) g = apart (cc)
-      on (If c dst num) g =
+      on : (i : Control) → bad24 C i p E ≡ false → Two r next ≡ partsOf R i x w p → AsksBoth i p r next
+      on Unknown o g = apart (cc)
+      on Plain o g = apart (cc)
+      on Emit o g = apart (cc)
+      on End o g = apart (cc)
+      on (Break c) o g = apart (cc)
+      on (If c dst num) o g =
+          let in-bounds = both (leb (p + 2) (dst .0)) (leb (dst .0 + num) E) (not-bad _ o) in
           let same : r ≡ partOf (inIf x) w (p + 1) (dst .0) = cc in
           let n : next ≡ wordAddress (dst .0 + num) = cc in
-          rw (same, n) (record { condition = c; dst = dst; num = num; is = refl; from = refl; to = refl; end = refl })
-      on (Loop q dst) g = apart (cc)
-      on (Call c dst num) g = apart (cc)
-      on (Jump c dst num) g = apart (cc)
+          rw (same, n) (record { condition = c; dst = dst; num = num; is = refl; from = refl; ahead = omega (arith, leb-true (p + 2) (dst .0) (in-bounds .0)); to = refl; end = refl })
+      on (Loop q dst) o g = apart (cc)
+      on (Call c dst num) o g = apart (cc)
+      on (Jump c dst num) o g = apart (cc)
 
-      by : (f : Fault) → Two r next ≡ unless f (partsOf R (C .control p) x w p) → AsksBoth (C .control p) p r next
-      by (At n q) g = apart (cc)
-      by Nothing g = on (C .control p) g
+      by : (f : Fault) → faultAt C R x p E ≡ f → Two r next ≡ unless f (partsOf R (C .control p) x w p) → AsksBoth (C .control p) p r next
+      by (At n q) z g = apart (cc)
+      by Nothing z g = on (C .control p) (fault-none C R x p E z .bounds) g
 
   -- a word that went on: of a jump, that its target is good
   next-recalled : (x : Opens) (w p E k : ℕ) (d : Deep) (m : List Bool) → Next ≡ lookOf C R x w p E → Recalled C R m (C .control p) p k d

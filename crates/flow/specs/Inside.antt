@@ -206,13 +206,14 @@ Asks (Loop q dst) p r = (r .opens .looped ≡ true) × (r .from .0 ≡ p + 1) ×
 Asks (Call c dst num) p r = (r .opens .looped ≡ false) × (r .from .0 ≡ dst .0) × (r .to .0 ≡ dst .0 + num)
 Asks (Jump c dst num) p r = ⊥
 
--- the parts that an IF at p asks for: its true one, and from that on its false one up to the next word
+-- the parts that an IF at p asks for: its true one, which has words, and from that on its false one up to the next word
 pub record AsksBoth (i : Control) (p : ℕ) (r : Part) (next : WordAddress) : Type 0 where
   pub condition : Condition
   pub dst : WordAddress
   pub num : ℕ
   pub is : i ≡ If condition dst num
   pub from : r .from .0 ≡ p + 1
+  pub ahead : r .from .0 < r .to .0
   pub to : r .to .0 ≡ dst .0
   pub end : next .0 ≡ dst .0 + num
 
@@ -273,6 +274,16 @@ goesOn (Break c) k E = false
 goesOn (If c dst num) k E = false
 goesOn (Loop q dst) k E = false
 goesOn (Call c dst num) k E = false
+
+-- the n words from p on go on without tests, whatever is known of jumps
+unfoldable pub allPlain : Code → ℕ → ℕ → Bool
+allPlain C p zero = true
+allPlain C p (suc n) = goesOn (C .control p) 0 0 && allPlain C (p + 1) n
+
+-- .. and are marked
+unfoldable pub markAll : List Bool → ℕ → ℕ → List Bool
+markAll m p zero = m
+markAll m p (suc n) = markAll (set m p true) (p + 1) n
 
 -- what scanning a part relies on, and what it leaves
 pub record Ready (C : Code) (a : Allowed) (r : Part) (m : List Bool) (costs depths : List ℕ) : Type 0 where

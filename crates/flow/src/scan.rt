@@ -1,10 +1,10 @@
 // The visits of a region, those of its parts and called regions among them.
 ghost use mathlib.Core.Path.{_≡_};
-ghost use Prim.Native.Nat.{_+_, _*_, _≤_, _<_, max};
+ghost use Prim.Native.Nat.{_+_, _*_, _-_, _≤_, _<_, max};
 ghost use lib.ListN.{length, set};
 ghost use Rattle.binary.specs.Addresses.{wordAddress};
 ghost use Rattle.flow.specs.Flow.{codeOf};
-ghost use Rattle.flow.specs.Inside.{rulesOf, afterPart, deepOf, deepest, beyond, Over, Under, Small, Room, Asks, AsksBoth, goesOn, packed, deepAt, fitsAgain, passedAgain, Weighs, scanned, scanOf, Ready, Scans, ScansBoth};
+ghost use Rattle.flow.specs.Inside.{rulesOf, afterPart, deepOf, deepest, beyond, Over, Under, Small, Room, Asks, AsksBoth, goesOn, allPlain, markAll, packed, deepAt, fitsAgain, passedAgain, Weighs, scanned, scanOf, Ready, Scans, ScansBoth};
 use crate::look::Allowed;
 use crate::look::Look;
 use crate::look::Opens;
@@ -168,6 +168,34 @@ fn goes_on(control: Control, known: u32, end: u32) -> bool
     }
 }
 
+// Whether the words from `from` up to `to` have no tests, whatever is known of jumps.
+fn all_plain(words: &[u32], from: u32, to: u32) -> bool
+    requires { ⌜ to ≤ length (now words) ⌝ }
+    ensures { λ r. ⌜ r ≡ allPlain (codeOf (now (words .entry)) 0) from (to - from) ⌝ }
+{
+    let mut p = from;
+    while p < to {
+        let at = p as usize;
+        if !goes_on(control_of(words[at]), 0, 0) {
+            return false;
+        }
+        p += 1;
+    }
+    true
+}
+
+fn mark_all(marks: &mut [bool; 512], from: u32, to: u32)
+    requires { ⌜ to ≤ 512 ⌝ }
+    ensures { λ _. ⌜ now (marks .exit) ≡ markAll (now (marks .entry)) from (to - from) ⌝ }
+{
+    let mut p = from;
+    while p < to {
+        let i = p as usize;
+        marks[i] = true;
+        p += 1;
+    }
+}
+
 // Visits the part that a LOOP or a CALL at `p` asks for, and remembers what it found.
 fn descend(
     words: &[u32],
@@ -254,7 +282,7 @@ fn descend_both(
     }
 }
 
-// As `enter`, for an IF.
+// As `enter`, for an IF. Parts without tests, as most are, are counted and marked without descending: they cost as many visits as they have words, and open nothing.
 fn enter_both(
     words: &[u32],
     allowed: Allowed,
@@ -269,6 +297,16 @@ fn enter_both(
     requires { ⌜ Ready (codeOf (now words) 0) allowed yes (now marks) (now costs) (now depths) × (next .0 ≤ length (now words)) × AsksBoth (codeOf (now words) 0 .control p) p yes next × (p < 512) ⌝ }
     ensures { λ r. ⌜ ScansBoth (codeOf (now (words .entry)) 0) (rulesOf allowed) yes next total (now (marks .entry)) r (now (marks .exit)) (now (costs .exit)) (now (depths .exit)) ⌝ }
 {
+    let size = next.0 - yes.from.0;
+    let none = Deep {
+        calls: 0,
+        ifs: 0,
+        loops: 0,
+    };
+    if all_plain(words, yes.from.0, next.0) & fits_again(allowed, yes, total, size, none) {
+        mark_all(marks, yes.from.0, next.0);
+        return passed_again(allowed, yes, total, size, none);
+    }
     let at = p as usize;
     let cost = costs[at];
     let deep = deep_at(depths, p);

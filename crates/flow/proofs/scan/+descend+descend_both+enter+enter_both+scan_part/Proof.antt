@@ -10,6 +10,7 @@ use Rattle.flow.specs.Flow.{codeOf}
 use Rattle.flow.specs.Inside.{rulesOf, afterPart, goesOn, passedAgain}
 use Rattle.flow.specs.Visits.{size}
 use Rattle.flow.proofs.Looks.{light, heavy, later, fits-at, weighs-at}
+use Rattle.flow.proofs.Plain.{none, plain-both}
 use Rattle.flow.proofs.Remembering.{asks-one, asks-both, fits-known}
 use Rattle.flow.proofs.Standing.{Standing, standing-first, standing-end, standing-27, standing-known, standing-next, standing-refuse, one-stopped, one-passed, two-stopped, two-passed, ready-part, ready-second, few-beyond, recalled-scans, remembered-scans, recalled-both-scans, both-stopped, both-stopped-2, left-both, both-passed, both-remembered}
 use Rattle.flow.proofs.Tests.{both, not-true}
@@ -32,12 +33,14 @@ use Rattle.flow.proofs.scan.scan_part.Kinds as scan-part-kinds
 use Rattle.flow.proofs.scan.+descend+descend_both+enter+enter_both+scan_part.Lts-scan_part as scan-part-lts
 use Rattle.flow.proofs.look.look_at.Reads as look-at-reads
 use Rattle.flow.proofs.scan.after_part.Reads as after-part-reads
+use Rattle.flow.proofs.scan.all_plain.Reads as all-plain-reads
 use Rattle.flow.proofs.scan.beyond_of.Reads as beyond-of-reads
 use Rattle.flow.proofs.scan.deep_at.Reads as deep-at-reads
 use Rattle.flow.proofs.scan.deep_of.Reads as deep-of-reads
 use Rattle.flow.proofs.scan.deepest_of.Reads as deepest-of-reads
 use Rattle.flow.proofs.scan.fits_again.Reads as fits-again-reads
 use Rattle.flow.proofs.scan.goes_on.Reads as goes-on-reads
+use Rattle.flow.proofs.scan.mark_all.Reads as mark-all-reads
 use Rattle.flow.proofs.scan.passed_again.Reads as passed-again-reads
 use Rattle.flow.proofs.scan.remember.Reads as remember-reads
 use Rattle.flow.proofs.scan.stop.Reads as stop-reads
@@ -116,7 +119,7 @@ abbrev enter-claims : ℕ → enter-lts.Claims
 enter-claims t = (deep-at-reads.Asked, deep-at-reads.Learnt, fits-again-reads.Asked, fits-again-reads.Learnt, passed-again-reads.Asked, passed-again-reads.Learnt, descend-below t, descend.Post)
 
 abbrev enter-both-claims : ℕ → enter-both-lts.Claims
-enter-both-claims t = (deep-at-reads.Asked, deep-at-reads.Learnt, fits-again-reads.Asked, fits-again-reads.Learnt, passed-again-reads.Asked, passed-again-reads.Learnt, descend-both-below t, descend-both.Post)
+enter-both-claims t = (all-plain-reads.Asked, all-plain-reads.Learnt, fits-again-reads.Asked, fits-again-reads.Learnt, mark-all-reads.Asked, mark-all-reads.Learnt, passed-again-reads.Asked, passed-again-reads.Learnt, deep-at-reads.Asked, deep-at-reads.Learnt, descend-both-below t, descend-both.Post)
 
 abbrev claims : ℕ → scan-part-lts.Claims
 claims t = (deep-of-reads.Asked, deep-of-reads.Learnt, stop-reads.Asked, stop-reads.Learnt, control-of-reads.Asked, control-of-reads.Learnt, goes-on-reads.Asked, goes-on-reads.Learnt, look-at-reads.Asked, look-at-reads.Learnt, enter-below t, enter.Post, deepest-of-reads.Asked, deepest-of-reads.Learnt, enter-both-below t, enter-both.Post)
@@ -274,42 +277,70 @@ enter-descend-requires t c κs =
 enter-returns-2 : (t : ℕ) → enter-lts.Need-returns-2 (enter-claims t) (enter-at t) enter.Post
 enter-returns-2 t c = c .descend .ensures
 
-enter-both-mul-cost : (t : ℕ) → enter-both-lts.Need-mul-cost (enter-both-claims t) (enter-both-at t) enter-both.Post
-enter-both-mul-cost t c = search needs
+enter-both-sub-size : (t : ℕ) → enter-both-lts.Need-sub-size (enter-both-claims t) (enter-both-at t) enter-both.Post
+enter-both-sub-size t c = let h = c .before .before .before .pre .1 .2 in omega (arith, h .ahead, h .to, h .end)
 
-enter-both-element-copy-out-cost : (t : ℕ) → enter-both-lts.Need-element-copy-out-cost (enter-both-claims t) (enter-both-at t) enter-both.Post
-enter-both-element-copy-out-cost t c = omega (arith, c .before .pre .1 .3)
-
-enter-both-deep-at-requires : (t : ℕ) → enter-both-lts.Need-deep-at-requires (enter-both-claims t) (enter-both-at t) enter-both.Post
-enter-both-deep-at-requires t c κs = c .before .before .before .pre .1 .3
+enter-both-all-plain-requires : (t : ℕ) → enter-both-lts.Need-all-plain-requires (enter-both-claims t) (enter-both-at t) enter-both.Post
+enter-both-all-plain-requires t c κs = c .before .before .before .pre .1 .1
 
 enter-both-fits-again-requires : (t : ℕ) → enter-both-lts.Need-fits-again-requires (enter-both-claims t) (enter-both-at t) enter-both.Post
 enter-both-fits-again-requires t c κs =
-    let k = c .before .before .before .before .before in
+    let k = c .before .before .before .before in
     omega (arith, k .pre .1 .0 .weighs .0, light (k .args .yes .opens .loops) (omega (arith, k .pre .1 .0 .weighs)))
+
+enter-both-mark-all-requires : (t : ℕ) → enter-both-lts.Need-mark-all-requires (enter-both-claims t) (enter-both-at t) enter-both.Post
+enter-both-mark-all-requires t c κs = omega (arith, c .before .before .before .before .before .before .before .pre .1 .1, c .before .before .before .before .before .before .before .pre .1 .0 .few)
 
 enter-both-passed-again-requires : (t : ℕ) → enter-both-lts.Need-passed-again-requires (enter-both-claims t) (enter-both-at t) enter-both.Post
 enter-both-passed-again-requires t c κs =
-    let k = c .before .before .before .before .before .before .before in
+    let k = c .before .before .before .before .before .before .before .before in
     let C = codeOf (k .args .words .now) 0 in
-    let g = fits-known C (rulesOf (k .args .allowed)) (k .args .yes) (k .args .total) (getD (k .args .costs .now) (k .args .p) 0) (c .before .before .before .deep-at .result) (k .args .marks .now) (sym (c .before .fits-again .ensures) ∙ both (not (k .args .yes .opens .looped)) (c .before .fits-again .result) (c .if1 .taken) .1) in
+    let g = fits-known C (rulesOf (k .args .allowed)) (k .args .yes) (k .args .total) (k .args .next .0 - k .args .yes .from .0) none (k .args .marks .now) (sym (c .before .before .before .fits-again .ensures) ∙ both (c .before .before .before .before .all-plain .result) (c .before .before .before .fits-again .result) (c .before .before .if1 .taken) .1) in
     (g .room, g .fits)
 
 enter-both-returns : (t : ℕ) → enter-both-lts.Need-returns (enter-both-claims t) (enter-both-at t) enter-both.Post
 enter-both-returns t c =
-    let k = c .before .before .before .before .before .before .before .before in
+    let k = c .before .before .before .before .before .before .before .before .before in
+    let C = codeOf (k .args .words .now) 0 in
+    let g = fits-known C (rulesOf (k .args .allowed)) (k .args .yes) (k .args .total) (k .args .next .0 - k .args .yes .from .0) none (k .args .marks .now) (sym (c .before .before .before .before .fits-again .ensures) ∙ both (c .before .before .before .before .before .all-plain .result) (c .before .before .before .before .fits-again .result) (c .before .before .before .if1 .taken) .1) in
+    plain-both C (k .args .allowed) (k .args .yes) (k .args .next) (k .args .total) (k .args .p) (k .args .next .0 - k .args .yes .from .0) (k .args .marks .now) (k .pre .1 .0) (k .pre .1 .2) (k .pre .1 .1) (omega arith) refl (g .fits) (sym (c .before .before .before .before .before .all-plain .ensures) ∙ both (c .before .before .before .before .before .all-plain .result) (c .before .before .before .before .fits-again .result) (c .before .before .before .if1 .taken) .0) (c .passed-again .ensures) (c .before .mark-all .ensures)
+
+enter-both-mul-cost : (t : ℕ) → enter-both-lts.Need-mul-cost (enter-both-claims t) (enter-both-at t) enter-both.Post
+enter-both-mul-cost t c = search needs
+
+enter-both-element-copy-out-cost : (t : ℕ) → enter-both-lts.Need-element-copy-out-cost (enter-both-claims t) (enter-both-at t) enter-both.Post
+enter-both-element-copy-out-cost t c = omega (arith, c .before .before .before .before .before .before .pre .1 .3)
+
+enter-both-deep-at-requires : (t : ℕ) → enter-both-lts.Need-deep-at-requires (enter-both-claims t) (enter-both-at t) enter-both.Post
+enter-both-deep-at-requires t c κs = c .before .before .before .before .before .before .before .before .pre .1 .3
+
+enter-both-fits-again-requires-2 : (t : ℕ) → enter-both-lts.Need-fits-again-requires-2 (enter-both-claims t) (enter-both-at t) enter-both.Post
+enter-both-fits-again-requires-2 t c κs =
+    let k = c .before .before .before .before .before .before .before .before .before .before in
+    omega (arith, k .pre .1 .0 .weighs .0, light (k .args .yes .opens .loops) (omega (arith, k .pre .1 .0 .weighs)))
+
+enter-both-passed-again-requires-2 : (t : ℕ) → enter-both-lts.Need-passed-again-requires-2 (enter-both-claims t) (enter-both-at t) enter-both.Post
+enter-both-passed-again-requires-2 t c κs =
+    let k = c .before .before .before .before .before .before .before .before .before .before .before .before in
+    let C = codeOf (k .args .words .now) 0 in
+    let g = fits-known C (rulesOf (k .args .allowed)) (k .args .yes) (k .args .total) (getD (k .args .costs .now) (k .args .p) 0) (c .before .before .before .deep-at .result) (k .args .marks .now) (sym (c .before .fits-again2 .ensures) ∙ both (not (k .args .yes .opens .looped)) (c .before .fits-again2 .result) (c .if2 .taken) .1) in
+    (g .room, g .fits)
+
+enter-both-returns-2 : (t : ℕ) → enter-both-lts.Need-returns-2 (enter-both-claims t) (enter-both-at t) enter-both.Post
+enter-both-returns-2 t c =
+    let k = c .before .before .before .before .before .before .before .before .before .before .before .before .before in
     let C = codeOf (k .args .words .now) 0 in
     let d = c .before .before .before .before .deep-at .ensures in
-    let g = fits-known C (rulesOf (k .args .allowed)) (k .args .yes) (k .args .total) (getD (k .args .costs .now) (k .args .p) 0) (c .before .before .before .before .deep-at .result) (k .args .marks .now) (sym (c .before .before .fits-again .ensures) ∙ both (not (k .args .yes .opens .looped)) (c .before .before .fits-again .result) (c .before .if1 .taken) .1) in
-    recalled-both-scans C (k .args .allowed) (k .args .yes) (k .args .next) (k .args .total) (k .args .p) (k .args .marks .now) (k .pre .1 .0) (k .pre .1 .2) (not-true _ (both (not (k .args .yes .opens .looped)) (c .before .before .fits-again .result) (c .before .if1 .taken) .0)) (rw d at g) (c .passed-again .ensures ∙ ap (λ y. passedAgain (k .args .yes) (k .args .total) (getD (k .args .costs .now) (k .args .p) 0) y) d)
+    let g = fits-known C (rulesOf (k .args .allowed)) (k .args .yes) (k .args .total) (getD (k .args .costs .now) (k .args .p) 0) (c .before .before .before .before .deep-at .result) (k .args .marks .now) (sym (c .before .before .fits-again2 .ensures) ∙ both (not (k .args .yes .opens .looped)) (c .before .before .fits-again2 .result) (c .before .if2 .taken) .1) in
+    recalled-both-scans C (k .args .allowed) (k .args .yes) (k .args .next) (k .args .total) (k .args .p) (k .args .marks .now) (k .pre .1 .0) (k .pre .1 .2) (not-true _ (both (not (k .args .yes .opens .looped)) (c .before .before .fits-again2 .result) (c .before .if2 .taken) .0)) (rw d at g) (c .passed-again2 .ensures ∙ ap (λ y. passedAgain (k .args .yes) (k .args .total) (getD (k .args .costs .now) (k .args .p) 0) y) d)
 
 enter-both-descend-both-requires : (t : ℕ) → enter-both-lts.Need-descend-both-requires (enter-both-claims t) (enter-both-at t) enter-both.Post
 enter-both-descend-both-requires t c κs =
-    let k = c .before .before .before .before .before .before .before .before .before .before in
+    let k = c .before .before .before .before .before .before .before .before .before .before .before .before .before .before .before in
     (omega (arith, k .pre .0), k .pre .1)
 
-enter-both-returns-2 : (t : ℕ) → enter-both-lts.Need-returns-2 (enter-both-claims t) (enter-both-at t) enter-both.Post
-enter-both-returns-2 t c = c .descend-both .ensures
+enter-both-returns-3 : (t : ℕ) → enter-both-lts.Need-returns-3 (enter-both-claims t) (enter-both-at t) enter-both.Post
+enter-both-returns-3 t c = c .descend-both .ensures
 
 abbrev Inv-loop : scan-part-lts.InvT-loop
 Inv-loop words allowed marks₀ costs₀ depths₀ part total end p₀ t₀ deep₀ marks costs depths p t deep = Standing (codeOf words 0) allowed part total marks₀ marks costs depths p t deep
@@ -576,14 +607,20 @@ pub +descend+descend-both+enter+enter-both+scan-part-spec : {M : Type 1} → sta
     (enter-descend-requires t)
     (enter-returns-2 t))
     (λ t. enter-both-lts.spec (enter-both-claims t) (enter-both-at t) enter-both.Post
+    (enter-both-sub-size t)
+    (enter-both-all-plain-requires t)
+    (enter-both-fits-again-requires t)
+    (enter-both-mark-all-requires t)
+    (enter-both-passed-again-requires t)
+    (enter-both-returns t)
     (enter-both-mul-cost t)
     (enter-both-element-copy-out-cost t)
     (enter-both-deep-at-requires t)
-    (enter-both-fits-again-requires t)
-    (enter-both-passed-again-requires t)
-    (enter-both-returns t)
+    (enter-both-fits-again-requires-2 t)
+    (enter-both-passed-again-requires-2 t)
+    (enter-both-returns-2 t)
     (enter-both-descend-both-requires t)
-    (enter-both-returns-2 t))
+    (enter-both-returns-3 t))
     λ t. scan-part-lts.spec (claims t) (scan-part-at t) scan-part.Post Inv-loop μ-loop
     (deep-of-requires t)
     (loop-holds t)
