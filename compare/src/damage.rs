@@ -1,5 +1,5 @@
 //! Damages: one that aims at a part of the file, and rough ones.
-use crate::generate::{set32, Entries, Layout};
+use crate::generate::{set32, take_table, Entries, Layout, ENTRIES, SYMBOLS};
 use crate::random::Random;
 
 fn word(file: &mut [u8], layout: &Layout, p: usize, word: u32) {
@@ -30,7 +30,7 @@ pub fn damage(file: &mut Vec<u8>, layout: &Layout, random: &mut Random) {
     {
         return;
     }
-    match random.below(34) {
+    match random.below(35) {
         0 => file.resize(65_537, 0),
         1 => file.truncate(random.below(8)),
         2 => file[random.below(4)] ^= 0x20,
@@ -160,6 +160,16 @@ pub fn damage(file: &mut Vec<u8>, layout: &Layout, random: &mut Random) {
             e.dvle + 0x0c,
             random.below(layout.word_count + 1) as u32,
         ),
+        // One table of the next executable, which may not go with the others.
+        32 => {
+            let n = random.below(layout.executables.len());
+            if let Some(next) = layout.executables.get(n + 1) {
+                let field = [ENTRIES[0], ENTRIES[1], ENTRIES[3], SYMBOLS][random.below(4)];
+                if file.len() >= next.dvle + 64 {
+                    take_table(file, layout.executables[n].dvle, next.dvle, field);
+                }
+            }
+        }
         _ => {
             let at = layout.words + 4 * p + random.below(4);
             file[at] ^= 1 << random.below(8);

@@ -135,6 +135,7 @@ pub fn good(random: &mut Random) -> (Vec<u8>, Layout) {
         let at = executable(&mut file, &mut layout, main, words.len(), random);
         set32(&mut file, 8 + 4 * i, at as u32);
     }
+    share_tables(&mut file, &mut layout, random);
     if !first {
         program_tables(&mut file, &mut layout, &words, descriptors, random);
     }
@@ -259,6 +260,48 @@ fn executable(
     base
 }
 
+/// Where the offsets of the tables with entries stand in a DVLE, and of the symbol table.
+pub(crate) const ENTRIES: [usize; 4] = [0x18, 0x20, 0x28, 0x30];
+pub(crate) const SYMBOLS: usize = 0x38;
+
+/// Now and then an executable has the tables of the next one, which lie behind both, or the first of their entries.
+fn share_tables(file: &mut [u8], layout: &mut Layout, random: &mut Random) {
+    for i in (1..layout.executables.len()).rev() {
+        if !random.one_in(4) {
+            continue;
+        }
+        let (before, after) = layout.executables.split_at_mut(i);
+        let (taker, owner) = (&mut before[i - 1], &after[0]);
+        take_table(file, taker.dvle, owner.dvle, SYMBOLS);
+        for field in ENTRIES {
+            take_table(file, taker.dvle, owner.dvle, field);
+        }
+        let whole = random.one_in(2);
+        for (field, taken, owned) in [
+            (ENTRIES[0], &mut taker.constants, &owner.constants),
+            (ENTRIES[1], &mut taker.labels, &owner.labels),
+            (ENTRIES[2], &mut taker.outputs, &owner.outputs),
+            (ENTRIES[3], &mut taker.uniforms, &owner.uniforms),
+        ] {
+            taken.at = owned.at;
+            taken.count = if whole {
+                owned.count
+            } else {
+                random.below(owned.count + 1)
+            };
+            set32(file, taker.dvle + field + 4, taken.count as u32);
+        }
+    }
+}
+
+/// Gives the DVLE at `taker` the table of another that begins behind it.
+pub(crate) fn take_table(file: &mut [u8], taker: usize, owner: usize, field: usize) {
+    let start = owner + get32(file, owner + field) as usize;
+    let count = get32(file, owner + field + 4);
+    set32(file, taker + field, (start - taker) as u32);
+    set32(file, taker + field + 4, count);
+}
+
 /// Entries at the end of the file, with their offset and count in the section.
 fn entries(
     file: &mut Vec<u8>,
@@ -358,6 +401,10 @@ fn align(file: &mut Vec<u8>) {
 
 pub(crate) fn put32(file: &mut Vec<u8>, n: u32) {
     file.extend(n.to_le_bytes());
+}
+
+fn get32(file: &[u8], at: usize) -> u32 {
+    u32::from_le_bytes(file[at..at + 4].try_into().unwrap())
 }
 
 pub(crate) fn set32(file: &mut [u8], at: usize, n: u32) {

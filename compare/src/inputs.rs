@@ -18,7 +18,7 @@ pub struct Input {
     pub executables: u32,
 }
 
-/// What the executables of a library share. All have type 0 and main at word 0.
+/// What the executables of a library share. All have main at word 0.
 #[derive(Clone, Default)]
 struct Content {
     words: Vec<u32>,
@@ -28,7 +28,14 @@ struct Content {
     symbols: Vec<u8>,
 }
 
-/// Every program alone and as 16 executables, then the large tables in each of 16.
+/// Whether the executables of a library share everything, or none shares a table or its type with the one before it.
+#[derive(Clone, Copy, PartialEq)]
+enum Kinds {
+    One,
+    TwoInTurn,
+}
+
+/// Every program alone, then with the large tables as 16 executables alike, and as 16 of two kinds in turn.
 pub fn all() -> Vec<Input> {
     let programs = [
         ("example", main_only(example())),
@@ -46,18 +53,24 @@ pub fn all() -> Vec<Input> {
         ("3,200 constants", vectors(3_200)),
         ("2,000 labels", labels(2_000)),
     ];
-    let shared = programs.iter().chain(&tables);
-    programs
+    let alone = programs
         .iter()
-        .map(|(name, content)| input(name, content, 1))
-        .chain(shared.map(|(name, content)| input(&format!("{name}, 16 executables"), content, 16)))
-        .collect()
+        .map(|(name, content)| input(name.to_string(), content, 1, Kinds::One));
+    let alike = programs.iter().chain(&tables).map(|(name, content)| {
+        let name = format!("{name}, 16 executables");
+        input(name, content, 16, Kinds::One)
+    });
+    let in_turn = programs.iter().chain(&tables).map(|(name, content)| {
+        let name = format!("{name}, 16 executables of two kinds");
+        input(name, content, 16, Kinds::TwoInTurn)
+    });
+    alone.chain(alike).chain(in_turn).collect()
 }
 
-fn input(name: &str, content: &Content, executables: usize) -> Input {
+fn input(name: String, content: &Content, executables: usize, kinds: Kinds) -> Input {
     Input {
-        name: name.to_string(),
-        file: library(content, executables),
+        name,
+        file: library(content, executables, kinds),
         executables: executables as u32,
     }
 }
@@ -205,8 +218,8 @@ fn labels(count: usize) -> Content {
     }
 }
 
-/// Header, DVLP, the DVLEs, then the words, one descriptor and the tables.
-fn library(content: &Content, executables: usize) -> Vec<u8> {
+/// Header, DVLP, the DVLEs, then the words, one descriptor and the tables. Of two kinds, the first has type 0, the second type 1 and tables without their first entry.
+fn library(content: &Content, executables: usize, kinds: Kinds) -> Vec<u8> {
     let dvlp = 8 + 4 * executables;
     let dvles: Vec<usize> = (0..executables).map(|n| dvlp + 40 + 64 * n).collect();
     let mut file = vec![0; dvlp + 40 + 64 * executables];
@@ -216,6 +229,7 @@ fn library(content: &Content, executables: usize) -> Vec<u8> {
     for (n, &dvle) in dvles.iter().enumerate() {
         set32(&mut file, 8 + 4 * n, dvle as u32);
         file[dvle..dvle + 4].copy_from_slice(b"DVLE");
+        file[dvle + 6] = second(n, kinds) as u8;
         set32(&mut file, dvle + 0x0c, content.endmain as u32);
         set32(&mut file, dvle + 0x10, 0x0001_0001);
     }
@@ -226,16 +240,32 @@ fn library(content: &Content, executables: usize) -> Vec<u8> {
     table(&mut file, dvlp, dvlp + 0x10, 1);
     put32(&mut file, 0x0d86_c36f);
     put32(&mut file, 0x0f);
-    share(&mut file, &dvles, 0x18, &content.constants, 20);
-    share(&mut file, &dvles, 0x20, &content.labels, 16);
-    share(&mut file, &dvles, 0x38, &content.symbols, 1);
+    share(&mut file, &dvles, kinds, 0x18, &content.constants, 20);
+    share(&mut file, &dvles, kinds, 0x20, &content.labels, 16);
+    share(&mut file, &dvles, kinds, 0x38, &content.symbols, 1);
     file
 }
 
+/// Whether the executable is of the second kind.
+fn second(n: usize, kinds: Kinds) -> bool {
+    kinds == Kinds::TwoInTurn && n % 2 == 1
+}
+
 /// One table for all executables, at the end of the file.
-fn share(file: &mut Vec<u8>, dvles: &[usize], field: usize, entries: &[u8], size: usize) {
-    for &dvle in dvles {
-        table(file, dvle, dvle + field, entries.len() / size);
+fn share(
+    file: &mut Vec<u8>,
+    dvles: &[usize],
+    kinds: Kinds,
+    field: usize,
+    entries: &[u8],
+    size: usize,
+) {
+    let count = entries.len() / size;
+    for (n, &dvle) in dvles.iter().enumerate() {
+        let skipped = usize::from(second(n, kinds)).min(count);
+        let offset = file.len() + skipped * size - dvle;
+        set32(file, dvle + field, offset as u32);
+        set32(file, dvle + field + 4, (count - skipped) as u32);
     }
     file.extend(entries);
 }
