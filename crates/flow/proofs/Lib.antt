@@ -13,7 +13,7 @@ pub mod Passing
 pub mod Remembering
 pub mod PassedOnce
 pub mod Standing
-pub mod Plain
+pub mod NoTests
 pub mod Tests
 pub mod Trials
 pub mod Weights

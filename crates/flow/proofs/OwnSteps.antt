@@ -67,16 +67,16 @@ module _ (C : Code) (p E d : ℕ) where
       by false e = own-none (λ g. absurd (eqb-false p d e (omega arith)))
 
 -- after a word that is no block comes the next word
-pub after-plain : (i : Control) (p E : ℕ) → isBlock i ≡ false → afterOf i p E ≡ At (p + 1)
-after-plain Unknown p E e = refl
-after-plain Plain p E e = refl
-after-plain Emit p E e = refl
-after-plain End p E e = refl
-after-plain (Break c) p E e = refl
-after-plain (If c dst num) p E e = absurd (true-not-false e)
-after-plain (Loop r dst) p E e = absurd (true-not-false e)
-after-plain (Call c dst num) p E e = refl
-after-plain (Jump c dst num) p E e = refl
+pub after-no-block : (i : Control) (p E : ℕ) → isBlock i ≡ false → afterOf i p E ≡ At (p + 1)
+after-no-block Unknown p E e = refl
+after-no-block Plain p E e = refl
+after-no-block Emit p E e = refl
+after-no-block End p E e = refl
+after-no-block (Break c) p E e = refl
+after-no-block (If c dst num) p E e = absurd (true-not-false e)
+after-no-block (Loop r dst) p E e = absurd (true-not-false e)
+after-no-block (Call c dst num) p E e = refl
+after-no-block (Jump c dst num) p E e = refl
 
 -- the next own word is further on
 pub after-further : (i : Control) (p E : ℕ) {n : ℕ} → p < E → afterOf i p E ≡ At n → p < n

@@ -15,7 +15,7 @@ use Rattle.binary.specs.Addresses.{wordAddress}
 use Rattle.binary.specs.declared.WordAddress.{WordAddress}
 use Rattle.instruction.specs.declared.flow_control.Control.{Control}
 use Rattle.instruction.specs.declared.flow_control.Control.the-variants.{Unknown, Plain, Emit, End, Break, If, Loop, Call, Jump}
-use Rattle.flow.specs.Inside.{unless, partOf, partsOf, lookOf, scanned, scanOf, beyond, Room, Covers, Passes, PassesBoth, Left, LeftBoth, afterPart, scanBoth, deepest, opened, Asks, AsksBoth, Recalled, packed, unpacked, deepAt, Memory, fitsAgain}
+use Rattle.flow.specs.Inside.{unless, partOf, partsOf, lookOf, scanned, scanOf, beyond, Room, Covers, Passes, PassesBoth, Left, LeftBoth, afterPart, scanBoth, deepest, opened, Asks, AsksBoth, Recalled, packed, unpacked, deepAt, Memory, fitsHere}
 use Rattle.flow.specs.Rules.{Code, Rules, inIf, inLoop, inCall}
 use Rattle.flow.specs.Visits.{bad24, faultAt}
 use Rattle.flow.specs.declared.look.Look.the-variants.{Next, One, Two}
@@ -212,8 +212,8 @@ module _ (C : Code) (R : Rules) where
       pub room : Room R (r .opens) d
       pub fits : t + r .weight * k ≤ R .most
 
-    pub fits-known : fitsAgain R r t k d ≡ true → Again
-    unfolding fitsAgain
+    pub fits-known : fitsHere R r t k d ≡ true → Again
+    unfolding fitsHere
     fits-known e =
         let (e₁, f) = both _ _ e in
         let (e₂, l) = both _ _ e₁ in

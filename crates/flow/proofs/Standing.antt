@@ -7,7 +7,7 @@ use native.Mathlib.Omega.{arith}
 use lib.ListN.{length, getD, set, length-set}
 use Rattle.binary.specs.Addresses.{wordAddress}
 use Rattle.binary.specs.declared.WordAddress.{WordAddress}
-use Rattle.flow.specs.Inside.{rulesOf, partOf, lookOf, Weighs, scanned, scanOf, Covers, LeftBoth, afterPart, beyond, Under, Small, deepest, deepOf, Asks, AsksBoth, packed, deepAt, Memory, goesOn, passedAgain, Ready, Scans, ScansBoth}
+use Rattle.flow.specs.Inside.{rulesOf, partOf, lookOf, Weighs, scanned, scanOf, Covers, LeftBoth, afterPart, beyond, Under, Small, deepest, deepOf, Asks, AsksBoth, packed, deepAt, Memory, goesOn, passedOver, Ready, Scans, ScansBoth}
 use Rattle.flow.specs.Rules.{Code}
 use Rattle.flow.specs.declared.look.Allowed.{Allowed}
 use Rattle.flow.specs.declared.look.Look.the-variants.{Refuse, Next, One, Two}
@@ -166,7 +166,7 @@ few-beyond a d x same h g = rw same (omega (arith, h .0, g .0), omega (arith, h 
 
 -- entering the part that a LOOP or a CALL at p asks for: it is remembered and fits; or it was scanned, and is remembered then
 module _ (C : Code) (a : Allowed) (r : Part) (t p : ℕ) (m : List Bool) {costs depths : List ℕ} (y : Ready C a r m costs depths) (h : Asks (C .control p) p r) where
-  pub recalled-scans : {o : Outcome} → Again C (rulesOf a) r t (getD costs p 0) (deepAt depths p) m → o ≡ passedAgain r t (getD costs p 0) (deepAt depths p)
+  pub recalled-scans : {o : Outcome} → Again C (rulesOf a) r t (getD costs p 0) (deepAt depths p) m → o ≡ passedOver r t (getD costs p 0) (deepAt depths p)
       → Scans C (rulesOf a) r t m o m costs depths
   recalled-scans g e =
       let k = getD costs p 0 in
@@ -196,7 +196,7 @@ module _ (C : Code) (a : Allowed) (r : Part) (t p : ℕ) (m : List Bool) {costs 
 
 -- .. the two parts of an IF, outside a LOOP
 module _ (C : Code) (a : Allowed) (r : Part) (next : WordAddress) (t p : ℕ) (m : List Bool) {costs depths : List ℕ} (y : Ready C a r m costs depths) (h : AsksBoth (C .control p) p r next) where
-  pub recalled-both-scans : {o : Outcome} → r .opens .looped ≡ false → Again C (rulesOf a) r t (getD costs p 0) (deepAt depths p) m → o ≡ passedAgain r t (getD costs p 0) (deepAt depths p)
+  pub recalled-both-scans : {o : Outcome} → r .opens .looped ≡ false → Again C (rulesOf a) r t (getD costs p 0) (deepAt depths p) m → o ≡ passedOver r t (getD costs p 0) (deepAt depths p)
       → ScansBoth C (rulesOf a) r next t m o m costs depths
   recalled-both-scans b g e =
       let k = getD costs p 0 in

@@ -250,9 +250,9 @@ pub record Memory (C : Code) (R : Rules) (m : List Bool) (costs depths : List �
   pub depths-long : length depths ≡ 512
   pub recalls : (p : ℕ) → 1 ≤ getD costs p 0 → Recalled C R m (C .control p) p (getD costs p 0) (deepAt depths p)
 
--- a remembered region fits
-unfoldable pub fitsAgain : Rules → Part → ℕ → ℕ → Deep → Bool
-fitsAgain R r t k d =
+-- a region that is remembered or has no tests fits
+unfoldable pub fitsHere : Rules → Part → ℕ → ℕ → Deep → Bool
+fitsHere R r t k d =
     (((ltb 0 k && leb (r .opens .calls + d .calls) (R .calls)) && leb (r .opens .ifs + d .ifs) (R .ifs)) && leb (r .opens .loops + d .loops) (R .loops)) && leb (t + r .weight * k) (R .most)
 
 -- limits below 256, so that depths can be packed
@@ -260,8 +260,8 @@ abbrev pub Small : Allowed → Type 0
 Small a = (a .calls < 256) × (a .ifs < 256) × (a .loops < 256)
 
 -- what a part that fits leaves
-abbrev pub passedAgain : Part → ℕ → ℕ → Deep → Outcome
-passedAgain r t k d = record { scan = scan.Go (t + r .weight * k); deep = opened (r .opens) d }
+abbrev pub passedOver : Part → ℕ → ℕ → Deep → Outcome
+passedOver r t k d = record { scan = scan.Go (t + r .weight * k); deep = opened (r .opens) d }
 
 -- true where a visited word is known to go on without its tests: it has none, or it is a jump whose target was found and lies in the region. Else they are made
 abbrev pub goesOn : Control → ℕ → ℕ → Bool
@@ -275,10 +275,10 @@ goesOn (If c dst num) k E = false
 goesOn (Loop q dst) k E = false
 goesOn (Call c dst num) k E = false
 
--- the n words from p on go on without tests, whatever is known of jumps
-unfoldable pub allPlain : Code → ℕ → ℕ → Bool
-allPlain C p zero = true
-allPlain C p (suc n) = goesOn (C .control p) 0 0 && allPlain C (p + 1) n
+-- the n words from p on have no tests: none is an EMIT, a BREAK, an IF, a LOOP, a CALL or a jump
+unfoldable pub noTests : Code → ℕ → ℕ → Bool
+noTests C p zero = true
+noTests C p (suc n) = goesOn (C .control p) 0 0 && noTests C (p + 1) n
 
 -- .. and are marked
 unfoldable pub markAll : List Bool → ℕ → ℕ → List Bool

@@ -4,7 +4,7 @@ ghost use Prim.Native.Nat.{_+_, _*_, _-_, _≤_, _<_, max};
 ghost use lib.ListN.{length, set};
 ghost use Rattle.binary.specs.Addresses.{wordAddress};
 ghost use Rattle.flow.specs.Flow.{codeOf};
-ghost use Rattle.flow.specs.Inside.{rulesOf, afterPart, deepOf, deepest, beyond, Over, Under, Small, Room, Asks, AsksBoth, goesOn, allPlain, markAll, packed, deepAt, fitsAgain, passedAgain, Weighs, scanned, scanOf, Ready, Scans, ScansBoth};
+ghost use Rattle.flow.specs.Inside.{rulesOf, afterPart, deepOf, deepest, beyond, Over, Under, Small, Room, Asks, AsksBoth, goesOn, noTests, markAll, packed, deepAt, fitsHere, passedOver, Weighs, scanned, scanOf, Ready, Scans, ScansBoth};
 use crate::look::Allowed;
 use crate::look::Look;
 use crate::look::Opens;
@@ -107,9 +107,9 @@ fn stop(number: u32, p: u32) -> Outcome
 }
 
 // Whether a region of this cost and depth, without the weight and what is open around it, fits in here and into the total.
-fn fits_again(allowed: Allowed, part: Part, total: u32, cost: u32, deep: Deep) -> bool
+fn fits_here(allowed: Allowed, part: Part, total: u32, cost: u32, deep: Deep) -> bool
     requires { ⌜ part .weight ≤ 65536 ⌝ }
-    ensures { λ r. ⌜ r ≡ fitsAgain (rulesOf allowed) part total cost deep ⌝ }
+    ensures { λ r. ⌜ r ≡ fitsHere (rulesOf allowed) part total cost deep ⌝ }
 {
     let calls = part.opens.calls as u64 + deep.calls as u64;
     let ifs = part.opens.ifs as u64 + deep.ifs as u64;
@@ -122,10 +122,10 @@ fn fits_again(allowed: Allowed, part: Part, total: u32, cost: u32, deep: Deep) -
         & (sum <= allowed.most as u64)
 }
 
-// What a region that fits again leaves: its cost in the total, and what it opens added to what is open around it.
-fn passed_again(allowed: Allowed, part: Part, total: u32, cost: u32, deep: Deep) -> Outcome
+// What a region that fits leaves without being visited: its cost in the total, and what it opens added to what is open around it.
+fn passed_over(allowed: Allowed, part: Part, total: u32, cost: u32, deep: Deep) -> Outcome
     requires { ⌜ Room (rulesOf allowed) (part .opens) deep × (total + part .weight * cost ≤ allowed .most) ⌝ }
-    ensures { λ r. ⌜ r ≡ passedAgain part total cost deep ⌝ }
+    ensures { λ r. ⌜ r ≡ passedOver part total cost deep ⌝ }
 {
     let around = part.opens;
     Outcome {
@@ -168,10 +168,10 @@ fn goes_on(control: Control, known: u32, end: u32) -> bool
     }
 }
 
-// Whether the words from `from` up to `to` have no tests, whatever is known of jumps.
-fn all_plain(words: &[u32], from: u32, to: u32) -> bool
+// Whether the words from `from` up to `to` have no tests: none is an EMIT, a BREAK, an IF, a LOOP, a CALL or a jump.
+fn no_tests(words: &[u32], from: u32, to: u32) -> bool
     requires { ⌜ to ≤ length (now words) ⌝ }
-    ensures { λ r. ⌜ r ≡ allPlain (codeOf (now (words .entry)) 0) from (to - from) ⌝ }
+    ensures { λ r. ⌜ r ≡ noTests (codeOf (now (words .entry)) 0) from (to - from) ⌝ }
 {
     let mut p = from;
     while p < to {
@@ -238,13 +238,14 @@ fn enter(
     let at = p as usize;
     let cost = costs[at];
     let deep = deep_at(depths, p);
-    if fits_again(allowed, part, total, cost, deep) {
-        return passed_again(allowed, part, total, cost, deep);
+    if fits_here(allowed, part, total, cost, deep) {
+        return passed_over(allowed, part, total, cost, deep);
     }
     descend(words, allowed, marks, costs, depths, p, part, total)
 }
 
-// Visits the two parts that an IF at `p` asks for, and remembers what it found where no LOOP is open in the main or called region: with one around, a BREAK passes in
+// Visits the two parts that an IF at `p` asks for. If they have no tests they cost as many visits as they have words, open nothing, and are counted and marked at once.
+// Else they are scanned, and what was found is remembered where no LOOP is open in the main or called region: with one around, a BREAK passes in
 // them. Nothing is lost by that: a LOOP's body is remembered whole.
 fn descend_both(
     words: &[u32],
@@ -260,6 +261,16 @@ fn descend_both(
     requires { ⌜ Ready (codeOf (now words) 0) allowed yes (now marks) (now costs) (now depths) × (next .0 ≤ length (now words)) × AsksBoth (codeOf (now words) 0 .control p) p yes next × (p < 512) ⌝ }
     ensures { λ r. ⌜ ScansBoth (codeOf (now (words .entry)) 0) (rulesOf allowed) yes next total (now (marks .entry)) r (now (marks .exit)) (now (costs .exit)) (now (depths .exit)) ⌝ }
 {
+    let size = next.0 - yes.from.0;
+    let none = Deep {
+        calls: 0,
+        ifs: 0,
+        loops: 0,
+    };
+    if no_tests(words, yes.from.0, next.0) & fits_here(allowed, yes, total, size, none) {
+        mark_all(marks, yes.from.0, next.0);
+        return passed_over(allowed, yes, total, size, none);
+    }
     let first = scan_part(words, allowed, marks, costs, depths, yes, total);
     let scan1 = first.scan;
     let Scan::Go(between) = scan1 else {
@@ -282,7 +293,7 @@ fn descend_both(
     }
 }
 
-// As `enter`, for an IF. Parts without tests, as most are, are counted and marked without descending: they cost as many visits as they have words, and open nothing.
+// As `enter`, for an IF.
 fn enter_both(
     words: &[u32],
     allowed: Allowed,
@@ -297,21 +308,11 @@ fn enter_both(
     requires { ⌜ Ready (codeOf (now words) 0) allowed yes (now marks) (now costs) (now depths) × (next .0 ≤ length (now words)) × AsksBoth (codeOf (now words) 0 .control p) p yes next × (p < 512) ⌝ }
     ensures { λ r. ⌜ ScansBoth (codeOf (now (words .entry)) 0) (rulesOf allowed) yes next total (now (marks .entry)) r (now (marks .exit)) (now (costs .exit)) (now (depths .exit)) ⌝ }
 {
-    let size = next.0 - yes.from.0;
-    let none = Deep {
-        calls: 0,
-        ifs: 0,
-        loops: 0,
-    };
-    if all_plain(words, yes.from.0, next.0) & fits_again(allowed, yes, total, size, none) {
-        mark_all(marks, yes.from.0, next.0);
-        return passed_again(allowed, yes, total, size, none);
-    }
     let at = p as usize;
     let cost = costs[at];
     let deep = deep_at(depths, p);
-    if !yes.opens.looped & fits_again(allowed, yes, total, cost, deep) {
-        return passed_again(allowed, yes, total, cost, deep);
+    if !yes.opens.looped & fits_here(allowed, yes, total, cost, deep) {
+        return passed_over(allowed, yes, total, cost, deep);
     }
     descend_both(words, allowed, marks, costs, depths, p, yes, next, total)
 }

@@ -1,4 +1,5 @@
-// What was found of the executable judged before. What the next one shares with it is not judged again: sixteen executables may share every table, and a main.
+// What was found of the executable judged before. Good entries at the same bytes, the names of the same symbol table and the flow of the same main are taken over:
+// sixteen executables may share every table, and a main.
 ghost use mathlib.Core.Path.{_≡_};
 ghost use Rattle.flow.specs.Flow.{flowed, flowAnswer};
 ghost use Rattle.tables.specs.Names.{namesEnd};
@@ -70,7 +71,8 @@ pub(crate) fn none_earlier(file: &[u8], words: &[u32]) -> Earlier
     }
 }
 
-// How many of a table's entries, from the first on, are known to be good: those that it shares with a table of good ones, if both are tested with the same names.
+// How many of a table's entries, from the first on, are known to be good: those that it shares with a table of good ones, if both are tested with the same names. Constants
+// and outputs have none.
 pub(crate) fn good_in(same_names: bool, good: Table, table: Table) -> u32
     ensures { λ r. ⌜ r ≡ goodIn «same_names» good table ⌝ }
 {
@@ -81,27 +83,27 @@ pub(crate) fn good_in(same_names: bool, good: Table, table: Table) -> u32
     }
 }
 
-// Where the good names of a symbol table end.
+// Where the good names of a symbol table end: as before, if it is the earlier executable's.
 pub(crate) fn names_after(file: &[u8], earlier: Earlier, symbols: Table) -> u64
     requires { ⌜ earlier .names ≡ namesEnd (symbolsOf (now file) (earlier .executable .symbols)) ⌝ }
     ensures { λ r. ⌜ r ≡ namesEnd (symbolsOf (now (file .entry)) symbols) ⌝ }
 {
-    let known = earlier.executable.symbols;
-    if (known.start.0 == symbols.start.0) & (known.count == symbols.count) {
+    let before = earlier.executable.symbols;
+    if (before.start.0 == symbols.start.0) & (before.count == symbols.count) {
         earlier.names
     } else {
         names_end_of(file, symbols)
     }
 }
 
-// The flow check of an executable's main.
+// The flow check of an executable's main: as before, if it is the earlier executable's, of the same type.
 pub(crate) fn flow_after(words: &[u32], earlier: Earlier, e: Executable) -> Flow
     requires { ⌜ flowed (earlier .flow) ≡ flowAnswer (now words) (earlier .executable .«shader_type») (earlier .executable .main .0) (earlier .executable .endmain .0) ⌝ }
     ensures { λ r. ⌜ flowed r ≡ flowAnswer (now (words .entry)) (e .«shader_type») (e .main .0) (e .endmain .0) ⌝ }
 {
-    let known = earlier.executable;
-    let same_main = (known.main.0 == e.main.0) & (known.endmain.0 == e.endmain.0);
-    if same_main & (known.shader_type == e.shader_type) {
+    let before = earlier.executable;
+    let same_main = (before.main.0 == e.main.0) & (before.endmain.0 == e.endmain.0);
+    if same_main & (before.shader_type == e.shader_type) {
         earlier.flow
     } else {
         flow_of(words, e.shader_type, e.main.0, e.endmain.0)

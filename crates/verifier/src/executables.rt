@@ -56,7 +56,7 @@ fn report_with(e: Executable, total: u32, words: u32) -> Report
 }
 
 // 13 to 28 of the executables from `first` up to `end`, in their order, and the reports of these: one executable alone is a range of one.
-// What an executable shares with the one before it is not judged again. `Accepted` says that these have no fault; of the others it says nothing.
+// Good entries, names and the flow are taken over from the executable before, where it has the same. `Accepted` says that these have no fault; of the others it says nothing.
 pub(crate) fn judge_executables(
     file: &[u8],
     library: Library,

@@ -10,7 +10,7 @@ use Rattle.flow.specs.Inside.{afterOf}
 use Rattle.flow.specs.Own.{ownWords, has}
 use Rattle.flow.specs.Rules.{Code}
 use Rattle.flow.specs.declared.own.After.the-variants.{At}
-use Rattle.flow.proofs.OwnSteps.{own-none, own-next, own-last, own-reached, after-plain, after-further}
+use Rattle.flow.proofs.OwnSteps.{own-none, own-next, own-last, own-reached, after-no-block, after-further}
 use Rattle.flow.proofs.own.is_own.Statement.{statement}
 use Rattle.flow.proofs.own.is_own.Tie as tie
 
@@ -51,7 +51,7 @@ module _ (k : tie.In-loop Inv-loop μ-loop) where
 loop-again : tie.Need-loop-again Inv-loop μ-loop
 loop-again c =
     let k = c .before .before .before in
-    step k (after-plain (C k .control (p k)) (p k) (E k) (sym (c .before .is-block .ensures) ∙ not-true _ (c .if2 .taken)))
+    step k (after-no-block (C k .control (p k)) (p k) (E k) (sym (c .before .is-block .ensures) ∙ not-true _ (c .if2 .taken)))
 
 loop-less-2 : tie.Need-loop-less-2 Inv-loop μ-loop
 loop-less-2 c =

@@ -7,10 +7,10 @@ use native.Mathlib.Omega.{arith}
 use borrow.Author.Needs.{needs}
 use lib.ListN.{getD}
 use Rattle.flow.specs.Flow.{codeOf}
-use Rattle.flow.specs.Inside.{rulesOf, afterPart, goesOn, passedAgain}
+use Rattle.flow.specs.Inside.{rulesOf, afterPart, goesOn, passedOver}
 use Rattle.flow.specs.Visits.{size}
 use Rattle.flow.proofs.Looks.{light, heavy, later, fits-at, weighs-at}
-use Rattle.flow.proofs.Plain.{none, plain-both}
+use Rattle.flow.proofs.NoTests.{none, untested-both}
 use Rattle.flow.proofs.Remembering.{asks-one, asks-both, fits-known}
 use Rattle.flow.proofs.Standing.{Standing, standing-first, standing-end, standing-27, standing-known, standing-next, standing-refuse, one-stopped, one-passed, two-stopped, two-passed, ready-part, ready-second, few-beyond, recalled-scans, remembered-scans, recalled-both-scans, both-stopped, both-stopped-2, left-both, both-passed, both-remembered}
 use Rattle.flow.proofs.Tests.{both, not-true}
@@ -33,15 +33,15 @@ use Rattle.flow.proofs.scan.scan_part.Kinds as scan-part-kinds
 use Rattle.flow.proofs.scan.+descend+descend_both+enter+enter_both+scan_part.Lts-scan_part as scan-part-lts
 use Rattle.flow.proofs.look.look_at.Reads as look-at-reads
 use Rattle.flow.proofs.scan.after_part.Reads as after-part-reads
-use Rattle.flow.proofs.scan.all_plain.Reads as all-plain-reads
+use Rattle.flow.proofs.scan.no_tests.Reads as no-tests-reads
 use Rattle.flow.proofs.scan.beyond_of.Reads as beyond-of-reads
 use Rattle.flow.proofs.scan.deep_at.Reads as deep-at-reads
 use Rattle.flow.proofs.scan.deep_of.Reads as deep-of-reads
 use Rattle.flow.proofs.scan.deepest_of.Reads as deepest-of-reads
-use Rattle.flow.proofs.scan.fits_again.Reads as fits-again-reads
+use Rattle.flow.proofs.scan.fits_here.Reads as fits-here-reads
 use Rattle.flow.proofs.scan.goes_on.Reads as goes-on-reads
 use Rattle.flow.proofs.scan.mark_all.Reads as mark-all-reads
-use Rattle.flow.proofs.scan.passed_again.Reads as passed-again-reads
+use Rattle.flow.proofs.scan.passed_over.Reads as passed-over-reads
 use Rattle.flow.proofs.scan.remember.Reads as remember-reads
 use Rattle.flow.proofs.scan.stop.Reads as stop-reads
 use Rattle.instruction.proofs.control_of.Reads as control-of-reads
@@ -113,13 +113,13 @@ abbrev descend-claims : ℕ → descend-lts.Claims
 descend-claims t = (scan-part-below t, scan-part.Post, beyond-of-reads.Asked, beyond-of-reads.Learnt, remember-reads.Asked, remember-reads.Learnt)
 
 abbrev descend-both-claims : ℕ → descend-both-lts.Claims
-descend-both-claims t = (scan-part-below t, scan-part.Post, after-part-reads.Asked, after-part-reads.Learnt, deepest-of-reads.Asked, deepest-of-reads.Learnt, beyond-of-reads.Asked, beyond-of-reads.Learnt, remember-reads.Asked, remember-reads.Learnt)
+descend-both-claims t = (no-tests-reads.Asked, no-tests-reads.Learnt, fits-here-reads.Asked, fits-here-reads.Learnt, mark-all-reads.Asked, mark-all-reads.Learnt, passed-over-reads.Asked, passed-over-reads.Learnt, scan-part-below t, scan-part.Post, after-part-reads.Asked, after-part-reads.Learnt, deepest-of-reads.Asked, deepest-of-reads.Learnt, beyond-of-reads.Asked, beyond-of-reads.Learnt, remember-reads.Asked, remember-reads.Learnt)
 
 abbrev enter-claims : ℕ → enter-lts.Claims
-enter-claims t = (deep-at-reads.Asked, deep-at-reads.Learnt, fits-again-reads.Asked, fits-again-reads.Learnt, passed-again-reads.Asked, passed-again-reads.Learnt, descend-below t, descend.Post)
+enter-claims t = (deep-at-reads.Asked, deep-at-reads.Learnt, fits-here-reads.Asked, fits-here-reads.Learnt, passed-over-reads.Asked, passed-over-reads.Learnt, descend-below t, descend.Post)
 
 abbrev enter-both-claims : ℕ → enter-both-lts.Claims
-enter-both-claims t = (all-plain-reads.Asked, all-plain-reads.Learnt, fits-again-reads.Asked, fits-again-reads.Learnt, mark-all-reads.Asked, mark-all-reads.Learnt, passed-again-reads.Asked, passed-again-reads.Learnt, deep-at-reads.Asked, deep-at-reads.Learnt, descend-both-below t, descend-both.Post)
+enter-both-claims t = (deep-at-reads.Asked, deep-at-reads.Learnt, fits-here-reads.Asked, fits-here-reads.Learnt, passed-over-reads.Asked, passed-over-reads.Learnt, descend-both-below t, descend-both.Post)
 
 abbrev claims : ℕ → scan-part-lts.Claims
 claims t = (deep-of-reads.Asked, deep-of-reads.Learnt, stop-reads.Asked, stop-reads.Learnt, control-of-reads.Asked, control-of-reads.Learnt, goes-on-reads.Asked, goes-on-reads.Learnt, look-at-reads.Asked, look-at-reads.Learnt, enter-below t, enter.Post, deepest-of-reads.Asked, deepest-of-reads.Learnt, enter-both-below t, enter-both.Post)
@@ -166,9 +166,37 @@ descend-returns-2 t c =
     let r = c .remember .ensures in
     remembered-scans C (k .args .allowed) (k .args .part) (k .args .total) (k .args .p) (k .args .marks .now) (k .pre .1 .0) (k .pre .1 .1) (c .before .before .before .before .before .before .before .before .scan-part .ensures) (k .pre .1 .2) (omega (arith, k .pre .1 .0 .weighs .0, heavy (k .args .part .opens .loops))) (c .before .before .before .before .before .before .scan .given .1) refl (c .before .before .before .before .beyond-of .ensures) (r .0) (r .1)
 
+descend-both-sub-size : (t : ℕ) → descend-both-lts.Need-sub-size (descend-both-claims t) (descend-both-at t) descend-both.Post
+descend-both-sub-size t c = let h = c .before .before .before .pre .1 .2 in omega (arith, h .ahead, h .to, h .end)
+
+descend-both-no-tests-requires : (t : ℕ) → descend-both-lts.Need-no-tests-requires (descend-both-claims t) (descend-both-at t) descend-both.Post
+descend-both-no-tests-requires t c κs = c .before .before .before .pre .1 .1
+
+descend-both-fits-here-requires : (t : ℕ) → descend-both-lts.Need-fits-here-requires (descend-both-claims t) (descend-both-at t) descend-both.Post
+descend-both-fits-here-requires t c κs =
+    let k = c .before .before .before .before in
+    omega (arith, k .pre .1 .0 .weighs .0, light (k .args .yes .opens .loops) (omega (arith, k .pre .1 .0 .weighs)))
+
+descend-both-mark-all-requires : (t : ℕ) → descend-both-lts.Need-mark-all-requires (descend-both-claims t) (descend-both-at t) descend-both.Post
+descend-both-mark-all-requires t c κs = omega (arith, c .before .before .before .before .before .before .before .pre .1 .1, c .before .before .before .before .before .before .before .pre .1 .0 .few)
+
+descend-both-passed-over-requires : (t : ℕ) → descend-both-lts.Need-passed-over-requires (descend-both-claims t) (descend-both-at t) descend-both.Post
+descend-both-passed-over-requires t c κs =
+    let k = c .before .before .before .before .before .before .before .before in
+    let C = codeOf (k .args .words .now) 0 in
+    let g = fits-known C (rulesOf (k .args .allowed)) (k .args .yes) (k .args .total) (k .args .next .0 - k .args .yes .from .0) none (k .args .marks .now) (sym (c .before .before .before .fits-here .ensures) ∙ both (c .before .before .before .before .no-tests .result) (c .before .before .before .fits-here .result) (c .before .before .if1 .taken) .1) in
+    (g .room, g .fits)
+
+descend-both-returns : (t : ℕ) → descend-both-lts.Need-returns (descend-both-claims t) (descend-both-at t) descend-both.Post
+descend-both-returns t c =
+    let k = c .before .before .before .before .before .before .before .before .before in
+    let C = codeOf (k .args .words .now) 0 in
+    let g = fits-known C (rulesOf (k .args .allowed)) (k .args .yes) (k .args .total) (k .args .next .0 - k .args .yes .from .0) none (k .args .marks .now) (sym (c .before .before .before .before .fits-here .ensures) ∙ both (c .before .before .before .before .before .no-tests .result) (c .before .before .before .before .fits-here .result) (c .before .before .before .if1 .taken) .1) in
+    untested-both C (k .args .allowed) (k .args .yes) (k .args .next) (k .args .total) (k .args .p) (k .args .next .0 - k .args .yes .from .0) (k .args .marks .now) (k .pre .1 .0) (k .pre .1 .2) (k .pre .1 .1) (omega arith) refl (g .fits) (sym (c .before .before .before .before .before .no-tests .ensures) ∙ both (c .before .before .before .before .before .no-tests .result) (c .before .before .before .before .fits-here .result) (c .before .before .before .if1 .taken) .0) (c .passed-over .ensures) (c .before .mark-all .ensures)
+
 descend-both-scan-part-requires : (t : ℕ) → descend-both-lts.Need-scan-part-requires (descend-both-claims t) (descend-both-at t) descend-both.Post
 descend-both-scan-part-requires t c κs =
-    let k = c .before .before .before .before in
+    let k = c .before .before .before .before .before .before .before .before .before in
     (omega (arith, k .pre .0, le-max-left (size (codeOf (k .args .words .now) 0) (rulesOf (k .args .allowed)) (k .args .yes .opens) (k .args .yes .from .0) (k .args .yes .to .0)) (size (codeOf (k .args .words .now) 0) (rulesOf (k .args .allowed)) (k .args .yes .opens) (k .args .yes .to .0) (k .args .next .0))), k .pre .1 .0)
 
 descend-both-enum-known-scan1 : (t : ℕ) → descend-both-lts.Need-enum-known-scan1 (descend-both-claims t) (descend-both-at t) descend-both.Post
@@ -177,9 +205,9 @@ descend-both-enum-known-scan1 t c = search needs
 descend-both-enum-told : (t : ℕ) → descend-both-lts.Need-enum-told (descend-both-claims t) (descend-both-at t) descend-both.Post
 descend-both-enum-told t c = search needs
 
-descend-both-returns : (t : ℕ) → descend-both-lts.Need-returns (descend-both-claims t) (descend-both-at t) descend-both.Post
-descend-both-returns t c =
-    let k = c .before .before .before .before .before .before .before in
+descend-both-returns-2 : (t : ℕ) → descend-both-lts.Need-returns-2 (descend-both-claims t) (descend-both-at t) descend-both.Post
+descend-both-returns-2 t c =
+    let k = c .before .before .before .before .before .before .before .before .before .before .before .before in
     let C = codeOf (k .args .words .now) 0 in
     both-stopped C (k .args .allowed) (k .args .yes) (k .args .next) (k .args .total) (k .args .p) (k .args .marks .now) (k .pre .1 .0) (k .pre .1 .2) (c .before .before .scan-part .ensures) (c .enum-told .given .1)
 
@@ -188,7 +216,7 @@ descend-both-after-part-requires t c κs = search needs
 
 descend-both-scan-part-requires-2 : (t : ℕ) → descend-both-lts.Need-scan-part-requires-2 (descend-both-claims t) (descend-both-at t) descend-both.Post
 descend-both-scan-part-requires-2 t c κs =
-    let k = c .before .before .before .before .before .before .before .before .before .before .before .before in
+    let k = c .before .before .before .before .before .before .before .before .before .before .before .before .before .before .before .before .before in
     rw (c .before .before .before .after-part .ensures) (omega (arith, k .pre .0, le-max-right (size (codeOf (k .args .words .now) 0) (rulesOf (k .args .allowed)) (k .args .yes .opens) (k .args .yes .from .0) (k .args .yes .to .0)) (size (codeOf (k .args .words .now) 0) (rulesOf (k .args .allowed)) (k .args .yes .opens) (k .args .yes .to .0) (k .args .next .0))), ready-second (k .args .next) (k .pre .1 .0) (c .before .before .before .before .before .before .before .scan-part .ensures) (k .pre .1 .1))
 
 descend-both-enum-known-scan2 : (t : ℕ) → descend-both-lts.Need-enum-known-scan2 (descend-both-claims t) (descend-both-at t) descend-both.Post
@@ -197,9 +225,9 @@ descend-both-enum-known-scan2 t c = search needs
 descend-both-enum-told-2 : (t : ℕ) → descend-both-lts.Need-enum-told-2 (descend-both-claims t) (descend-both-at t) descend-both.Post
 descend-both-enum-told-2 t c = search needs
 
-descend-both-returns-2 : (t : ℕ) → descend-both-lts.Need-returns-2 (descend-both-claims t) (descend-both-at t) descend-both.Post
-descend-both-returns-2 t c =
-    let k = c .before .before .before .before .before .before .before .before .before .before .before .before .before .before .before in
+descend-both-returns-3 : (t : ℕ) → descend-both-lts.Need-returns-3 (descend-both-claims t) (descend-both-at t) descend-both.Post
+descend-both-returns-3 t c =
+    let k = c .before .before .before .before .before .before .before .before .before .before .before .before .before .before .before .before .before .before .before .before in
     let C = codeOf (k .args .words .now) 0 in
     both-stopped-2 C (k .args .allowed) (k .args .yes) (k .args .next) (k .args .total) (k .args .p) (k .args .marks .now) (k .pre .1 .0) (k .pre .1 .2) (c .before .before .before .before .before .before .before .before .before .before .scan-part .ensures) (c .before .before .before .before .before .before .before .before .scan1 .given .1) (rw (c .before .before .before .before .before .before .after-part .ensures) at (c .before .before .scan-part2 .ensures)) (c .enum-told2 .given .1)
 
@@ -211,32 +239,32 @@ descend-both-sub-cost t c = omega (arith, c .before .before .before .before .bef
 
 descend-both-div-cost : (t : ℕ) → descend-both-lts.Need-div-cost (descend-both-claims t) (descend-both-at t) descend-both.Post
 descend-both-div-cost t c =
-    let k = c .before .before .before .before .before .before .before .before .before .before .before .before .before .before .before .before .before .before .before .before in
+    let k = c .before .before .before .before .before .before .before .before .before .before .before .before .before .before .before .before .before .before .before .before .before .before .before .before .before in
     omega (arith, k .pre .1 .0 .weighs .0, heavy (k .args .yes .opens .loops))
 
 descend-both-beyond-of-requires : (t : ℕ) → descend-both-lts.Need-beyond-of-requires (descend-both-claims t) (descend-both-at t) descend-both.Post
 descend-both-beyond-of-requires t c κs =
-    let k = c .before .before .before .before .before .before .before .before .before .before .before .before .before .before .before .before .before .before .before .before .before .before in
+    let k = c .before .before .before .before .before .before .before .before .before .before .before .before .before .before .before .before .before .before .before .before .before .before .before .before .before .before .before in
     let C = codeOf (k .args .words .now) 0 in
     left-both C (k .args .allowed) (k .args .yes) (k .args .next) (k .args .total) (k .args .p) (k .args .marks .now) (k .pre .1 .0) (k .pre .1 .2) (c .before .before .before .before .before .before .before .before .before .before .before .before .before .before .before .before .before .scan-part .ensures) (c .before .before .before .before .before .before .before .before .before .before .before .before .before .before .before .scan1 .given .1) (rw (c .before .before .before .before .before .before .before .before .before .before .before .before .before .after-part .ensures) at (c .before .before .before .before .before .before .before .before .before .scan-part2 .ensures)) (c .before .before .before .before .before .before .before .scan2 .given .1) (c .before .before .before .before .before .deepest-of .ensures) .over
 
 descend-both-remember-requires : (t : ℕ) → descend-both-lts.Need-remember-requires (descend-both-claims t) (descend-both-at t) descend-both.Post
 descend-both-remember-requires t c κs =
-    let k = c .before .before .before .before .before .before .before .before .before .before .before .before .before .before .before .before .before .before .before .before .before .before .before in
+    let k = c .before .before .before .before .before .before .before .before .before .before .before .before .before .before .before .before .before .before .before .before .before .before .before .before .before .before .before .before in
     let C = codeOf (k .args .words .now) 0 in
     let s = few-beyond (k .args .allowed) _ (k .args .yes .opens) (c .beyond-of .ensures) (k .pre .1 .0 .small) (left-both C (k .args .allowed) (k .args .yes) (k .args .next) (k .args .total) (k .args .p) (k .args .marks .now) (k .pre .1 .0) (k .pre .1 .2) (c .before .before .before .before .before .before .before .before .before .before .before .before .before .before .before .before .before .before .scan-part .ensures) (c .before .before .before .before .before .before .before .before .before .before .before .before .before .before .before .before .scan1 .given .1) (rw (c .before .before .before .before .before .before .before .before .before .before .before .before .before .before .after-part .ensures) at (c .before .before .before .before .before .before .before .before .before .before .scan-part2 .ensures)) (c .before .before .before .before .before .before .before .before .scan2 .given .1) (c .before .before .before .before .before .before .deepest-of .ensures) .under) in
     (k .pre .1 .3, s .0, s .1, s .2)
 
-descend-both-returns-3 : (t : ℕ) → descend-both-lts.Need-returns-3 (descend-both-claims t) (descend-both-at t) descend-both.Post
-descend-both-returns-3 t c =
-    let k = c .before .before .before .before .before .before .before .before .before .before .before .before .before .before .before .before .before .before .before .before .before .before .before .before in
-    let C = codeOf (k .args .words .now) 0 in
-    let r = c .remember .ensures in
-    both-remembered C (k .args .allowed) (k .args .yes) (k .args .next) (k .args .total) (k .args .p) (k .args .marks .now) (k .pre .1 .0) (k .pre .1 .2) (c .before .before .before .before .before .before .before .before .before .before .before .before .before .before .before .before .before .before .before .scan-part .ensures) (c .before .before .before .before .before .before .before .before .before .before .before .before .before .before .before .before .before .scan1 .given .1) (rw (c .before .before .before .before .before .before .before .before .before .before .before .before .before .before .before .after-part .ensures) at (c .before .before .before .before .before .before .before .before .before .before .before .scan-part2 .ensures)) (c .before .before .before .before .before .before .before .before .before .scan2 .given .1) (c .before .before .before .before .before .before .before .deepest-of .ensures) refl refl (not-true _ (c .before .before .before .before .before .if1 .taken)) (k .pre .1 .3) (omega (arith, k .pre .1 .0 .weighs .0, heavy (k .args .yes .opens .loops))) refl (c .before .beyond-of .ensures) (r .0) (r .1)
-
 descend-both-returns-4 : (t : ℕ) → descend-both-lts.Need-returns-4 (descend-both-claims t) (descend-both-at t) descend-both.Post
 descend-both-returns-4 t c =
-    let k = c .before .before .before .before .before .before .before .before .before .before .before .before .before .before .before .before .before .before .before in
+    let k = c .before .before .before .before .before .before .before .before .before .before .before .before .before .before .before .before .before .before .before .before .before .before .before .before .before .before .before .before .before in
+    let C = codeOf (k .args .words .now) 0 in
+    let r = c .remember .ensures in
+    both-remembered C (k .args .allowed) (k .args .yes) (k .args .next) (k .args .total) (k .args .p) (k .args .marks .now) (k .pre .1 .0) (k .pre .1 .2) (c .before .before .before .before .before .before .before .before .before .before .before .before .before .before .before .before .before .before .before .scan-part .ensures) (c .before .before .before .before .before .before .before .before .before .before .before .before .before .before .before .before .before .scan1 .given .1) (rw (c .before .before .before .before .before .before .before .before .before .before .before .before .before .before .before .after-part .ensures) at (c .before .before .before .before .before .before .before .before .before .before .before .scan-part2 .ensures)) (c .before .before .before .before .before .before .before .before .before .scan2 .given .1) (c .before .before .before .before .before .before .before .deepest-of .ensures) refl refl (not-true _ (c .before .before .before .before .before .if2 .taken)) (k .pre .1 .3) (omega (arith, k .pre .1 .0 .weighs .0, heavy (k .args .yes .opens .loops))) refl (c .before .beyond-of .ensures) (r .0) (r .1)
+
+descend-both-returns-5 : (t : ℕ) → descend-both-lts.Need-returns-5 (descend-both-claims t) (descend-both-at t) descend-both.Post
+descend-both-returns-5 t c =
+    let k = c .before .before .before .before .before .before .before .before .before .before .before .before .before .before .before .before .before .before .before .before .before .before .before .before in
     let C = codeOf (k .args .words .now) 0 in
     both-passed C (k .args .allowed) (k .args .yes) (k .args .next) (k .args .total) (k .args .p) (k .args .marks .now) (k .pre .1 .0) (k .pre .1 .2) (c .before .before .before .before .before .before .before .before .before .before .before .before .before .before .scan-part .ensures) (c .before .before .before .before .before .before .before .before .before .before .before .before .scan1 .given .1) (rw (c .before .before .before .before .before .before .before .before .before .before .after-part .ensures) at (c .before .before .before .before .before .before .scan-part2 .ensures)) (c .before .before .before .before .scan2 .given .1) (c .before .before .deepest-of .ensures) refl refl
 
@@ -249,16 +277,16 @@ enter-element-copy-out-cost t c = omega (arith, c .before .pre .1 .2)
 enter-deep-at-requires : (t : ℕ) → enter-lts.Need-deep-at-requires (enter-claims t) (enter-at t) enter.Post
 enter-deep-at-requires t c κs = c .before .before .before .pre .1 .2
 
-enter-fits-again-requires : (t : ℕ) → enter-lts.Need-fits-again-requires (enter-claims t) (enter-at t) enter.Post
-enter-fits-again-requires t c κs =
+enter-fits-here-requires : (t : ℕ) → enter-lts.Need-fits-here-requires (enter-claims t) (enter-at t) enter.Post
+enter-fits-here-requires t c κs =
     let k = c .before .before .before .before in
     omega (arith, k .pre .1 .0 .weighs .0, light (k .args .part .opens .loops) (omega (arith, k .pre .1 .0 .weighs)))
 
-enter-passed-again-requires : (t : ℕ) → enter-lts.Need-passed-again-requires (enter-claims t) (enter-at t) enter.Post
-enter-passed-again-requires t c κs =
+enter-passed-over-requires : (t : ℕ) → enter-lts.Need-passed-over-requires (enter-claims t) (enter-at t) enter.Post
+enter-passed-over-requires t c κs =
     let k = c .before .before .before .before .before .before in
     let C = codeOf (k .args .words .now) 0 in
-    let g = fits-known C (rulesOf (k .args .allowed)) (k .args .part) (k .args .total) (getD (k .args .costs .now) (k .args .p) 0) (c .before .before .deep-at .result) (k .args .marks .now) (sym (c .before .fits-again .ensures) ∙ c .if1 .taken) in
+    let g = fits-known C (rulesOf (k .args .allowed)) (k .args .part) (k .args .total) (getD (k .args .costs .now) (k .args .p) 0) (c .before .before .deep-at .result) (k .args .marks .now) (sym (c .before .fits-here .ensures) ∙ c .if1 .taken) in
     (g .room, g .fits)
 
 enter-returns : (t : ℕ) → enter-lts.Need-returns (enter-claims t) (enter-at t) enter.Post
@@ -266,8 +294,8 @@ enter-returns t c =
     let k = c .before .before .before .before .before .before .before in
     let C = codeOf (k .args .words .now) 0 in
     let d = c .before .before .before .deep-at .ensures in
-    let g = fits-known C (rulesOf (k .args .allowed)) (k .args .part) (k .args .total) (getD (k .args .costs .now) (k .args .p) 0) (c .before .before .before .deep-at .result) (k .args .marks .now) (sym (c .before .before .fits-again .ensures) ∙ c .before .if1 .taken) in
-    recalled-scans C (k .args .allowed) (k .args .part) (k .args .total) (k .args .p) (k .args .marks .now) (k .pre .1 .0) (k .pre .1 .1) (rw d at g) (c .passed-again .ensures ∙ ap (λ y. passedAgain (k .args .part) (k .args .total) (getD (k .args .costs .now) (k .args .p) 0) y) d)
+    let g = fits-known C (rulesOf (k .args .allowed)) (k .args .part) (k .args .total) (getD (k .args .costs .now) (k .args .p) 0) (c .before .before .before .deep-at .result) (k .args .marks .now) (sym (c .before .before .fits-here .ensures) ∙ c .before .if1 .taken) in
+    recalled-scans C (k .args .allowed) (k .args .part) (k .args .total) (k .args .p) (k .args .marks .now) (k .pre .1 .0) (k .pre .1 .1) (rw d at g) (c .passed-over .ensures ∙ ap (λ y. passedOver (k .args .part) (k .args .total) (getD (k .args .costs .now) (k .args .p) 0) y) d)
 
 enter-descend-requires : (t : ℕ) → enter-lts.Need-descend-requires (enter-claims t) (enter-at t) enter.Post
 enter-descend-requires t c κs =
@@ -277,70 +305,42 @@ enter-descend-requires t c κs =
 enter-returns-2 : (t : ℕ) → enter-lts.Need-returns-2 (enter-claims t) (enter-at t) enter.Post
 enter-returns-2 t c = c .descend .ensures
 
-enter-both-sub-size : (t : ℕ) → enter-both-lts.Need-sub-size (enter-both-claims t) (enter-both-at t) enter-both.Post
-enter-both-sub-size t c = let h = c .before .before .before .pre .1 .2 in omega (arith, h .ahead, h .to, h .end)
-
-enter-both-all-plain-requires : (t : ℕ) → enter-both-lts.Need-all-plain-requires (enter-both-claims t) (enter-both-at t) enter-both.Post
-enter-both-all-plain-requires t c κs = c .before .before .before .pre .1 .1
-
-enter-both-fits-again-requires : (t : ℕ) → enter-both-lts.Need-fits-again-requires (enter-both-claims t) (enter-both-at t) enter-both.Post
-enter-both-fits-again-requires t c κs =
-    let k = c .before .before .before .before in
-    omega (arith, k .pre .1 .0 .weighs .0, light (k .args .yes .opens .loops) (omega (arith, k .pre .1 .0 .weighs)))
-
-enter-both-mark-all-requires : (t : ℕ) → enter-both-lts.Need-mark-all-requires (enter-both-claims t) (enter-both-at t) enter-both.Post
-enter-both-mark-all-requires t c κs = omega (arith, c .before .before .before .before .before .before .before .pre .1 .1, c .before .before .before .before .before .before .before .pre .1 .0 .few)
-
-enter-both-passed-again-requires : (t : ℕ) → enter-both-lts.Need-passed-again-requires (enter-both-claims t) (enter-both-at t) enter-both.Post
-enter-both-passed-again-requires t c κs =
-    let k = c .before .before .before .before .before .before .before .before in
-    let C = codeOf (k .args .words .now) 0 in
-    let g = fits-known C (rulesOf (k .args .allowed)) (k .args .yes) (k .args .total) (k .args .next .0 - k .args .yes .from .0) none (k .args .marks .now) (sym (c .before .before .before .fits-again .ensures) ∙ both (c .before .before .before .before .all-plain .result) (c .before .before .before .fits-again .result) (c .before .before .if1 .taken) .1) in
-    (g .room, g .fits)
-
-enter-both-returns : (t : ℕ) → enter-both-lts.Need-returns (enter-both-claims t) (enter-both-at t) enter-both.Post
-enter-both-returns t c =
-    let k = c .before .before .before .before .before .before .before .before .before in
-    let C = codeOf (k .args .words .now) 0 in
-    let g = fits-known C (rulesOf (k .args .allowed)) (k .args .yes) (k .args .total) (k .args .next .0 - k .args .yes .from .0) none (k .args .marks .now) (sym (c .before .before .before .before .fits-again .ensures) ∙ both (c .before .before .before .before .before .all-plain .result) (c .before .before .before .before .fits-again .result) (c .before .before .before .if1 .taken) .1) in
-    plain-both C (k .args .allowed) (k .args .yes) (k .args .next) (k .args .total) (k .args .p) (k .args .next .0 - k .args .yes .from .0) (k .args .marks .now) (k .pre .1 .0) (k .pre .1 .2) (k .pre .1 .1) (omega arith) refl (g .fits) (sym (c .before .before .before .before .before .all-plain .ensures) ∙ both (c .before .before .before .before .before .all-plain .result) (c .before .before .before .before .fits-again .result) (c .before .before .before .if1 .taken) .0) (c .passed-again .ensures) (c .before .mark-all .ensures)
-
 enter-both-mul-cost : (t : ℕ) → enter-both-lts.Need-mul-cost (enter-both-claims t) (enter-both-at t) enter-both.Post
 enter-both-mul-cost t c = search needs
 
 enter-both-element-copy-out-cost : (t : ℕ) → enter-both-lts.Need-element-copy-out-cost (enter-both-claims t) (enter-both-at t) enter-both.Post
-enter-both-element-copy-out-cost t c = omega (arith, c .before .before .before .before .before .before .pre .1 .3)
+enter-both-element-copy-out-cost t c = omega (arith, c .before .pre .1 .3)
 
 enter-both-deep-at-requires : (t : ℕ) → enter-both-lts.Need-deep-at-requires (enter-both-claims t) (enter-both-at t) enter-both.Post
-enter-both-deep-at-requires t c κs = c .before .before .before .before .before .before .before .before .pre .1 .3
+enter-both-deep-at-requires t c κs = c .before .before .before .pre .1 .3
 
-enter-both-fits-again-requires-2 : (t : ℕ) → enter-both-lts.Need-fits-again-requires-2 (enter-both-claims t) (enter-both-at t) enter-both.Post
-enter-both-fits-again-requires-2 t c κs =
-    let k = c .before .before .before .before .before .before .before .before .before .before in
+enter-both-fits-here-requires : (t : ℕ) → enter-both-lts.Need-fits-here-requires (enter-both-claims t) (enter-both-at t) enter-both.Post
+enter-both-fits-here-requires t c κs =
+    let k = c .before .before .before .before .before in
     omega (arith, k .pre .1 .0 .weighs .0, light (k .args .yes .opens .loops) (omega (arith, k .pre .1 .0 .weighs)))
 
-enter-both-passed-again-requires-2 : (t : ℕ) → enter-both-lts.Need-passed-again-requires-2 (enter-both-claims t) (enter-both-at t) enter-both.Post
-enter-both-passed-again-requires-2 t c κs =
-    let k = c .before .before .before .before .before .before .before .before .before .before .before .before in
+enter-both-passed-over-requires : (t : ℕ) → enter-both-lts.Need-passed-over-requires (enter-both-claims t) (enter-both-at t) enter-both.Post
+enter-both-passed-over-requires t c κs =
+    let k = c .before .before .before .before .before .before .before in
     let C = codeOf (k .args .words .now) 0 in
-    let g = fits-known C (rulesOf (k .args .allowed)) (k .args .yes) (k .args .total) (getD (k .args .costs .now) (k .args .p) 0) (c .before .before .before .deep-at .result) (k .args .marks .now) (sym (c .before .fits-again2 .ensures) ∙ both (not (k .args .yes .opens .looped)) (c .before .fits-again2 .result) (c .if2 .taken) .1) in
+    let g = fits-known C (rulesOf (k .args .allowed)) (k .args .yes) (k .args .total) (getD (k .args .costs .now) (k .args .p) 0) (c .before .before .before .deep-at .result) (k .args .marks .now) (sym (c .before .fits-here .ensures) ∙ both (not (k .args .yes .opens .looped)) (c .before .fits-here .result) (c .if1 .taken) .1) in
     (g .room, g .fits)
 
-enter-both-returns-2 : (t : ℕ) → enter-both-lts.Need-returns-2 (enter-both-claims t) (enter-both-at t) enter-both.Post
-enter-both-returns-2 t c =
-    let k = c .before .before .before .before .before .before .before .before .before .before .before .before .before in
+enter-both-returns : (t : ℕ) → enter-both-lts.Need-returns (enter-both-claims t) (enter-both-at t) enter-both.Post
+enter-both-returns t c =
+    let k = c .before .before .before .before .before .before .before .before in
     let C = codeOf (k .args .words .now) 0 in
     let d = c .before .before .before .before .deep-at .ensures in
-    let g = fits-known C (rulesOf (k .args .allowed)) (k .args .yes) (k .args .total) (getD (k .args .costs .now) (k .args .p) 0) (c .before .before .before .before .deep-at .result) (k .args .marks .now) (sym (c .before .before .fits-again2 .ensures) ∙ both (not (k .args .yes .opens .looped)) (c .before .before .fits-again2 .result) (c .before .if2 .taken) .1) in
-    recalled-both-scans C (k .args .allowed) (k .args .yes) (k .args .next) (k .args .total) (k .args .p) (k .args .marks .now) (k .pre .1 .0) (k .pre .1 .2) (not-true _ (both (not (k .args .yes .opens .looped)) (c .before .before .fits-again2 .result) (c .before .if2 .taken) .0)) (rw d at g) (c .passed-again2 .ensures ∙ ap (λ y. passedAgain (k .args .yes) (k .args .total) (getD (k .args .costs .now) (k .args .p) 0) y) d)
+    let g = fits-known C (rulesOf (k .args .allowed)) (k .args .yes) (k .args .total) (getD (k .args .costs .now) (k .args .p) 0) (c .before .before .before .before .deep-at .result) (k .args .marks .now) (sym (c .before .before .fits-here .ensures) ∙ both (not (k .args .yes .opens .looped)) (c .before .before .fits-here .result) (c .before .if1 .taken) .1) in
+    recalled-both-scans C (k .args .allowed) (k .args .yes) (k .args .next) (k .args .total) (k .args .p) (k .args .marks .now) (k .pre .1 .0) (k .pre .1 .2) (not-true _ (both (not (k .args .yes .opens .looped)) (c .before .before .fits-here .result) (c .before .if1 .taken) .0)) (rw d at g) (c .passed-over .ensures ∙ ap (λ y. passedOver (k .args .yes) (k .args .total) (getD (k .args .costs .now) (k .args .p) 0) y) d)
 
 enter-both-descend-both-requires : (t : ℕ) → enter-both-lts.Need-descend-both-requires (enter-both-claims t) (enter-both-at t) enter-both.Post
 enter-both-descend-both-requires t c κs =
-    let k = c .before .before .before .before .before .before .before .before .before .before .before .before .before .before .before in
+    let k = c .before .before .before .before .before .before .before .before .before .before in
     (omega (arith, k .pre .0), k .pre .1)
 
-enter-both-returns-3 : (t : ℕ) → enter-both-lts.Need-returns-3 (enter-both-claims t) (enter-both-at t) enter-both.Post
-enter-both-returns-3 t c = c .descend-both .ensures
+enter-both-returns-2 : (t : ℕ) → enter-both-lts.Need-returns-2 (enter-both-claims t) (enter-both-at t) enter-both.Post
+enter-both-returns-2 t c = c .descend-both .ensures
 
 abbrev Inv-loop : scan-part-lts.InvT-loop
 Inv-loop words allowed marks₀ costs₀ depths₀ part total end p₀ t₀ deep₀ marks costs depths p t deep = Standing (codeOf words 0) allowed part total marks₀ marks costs depths p t deep
@@ -581,46 +581,46 @@ pub +descend+descend-both+enter+enter-both+scan-part-spec : {M : Type 1} → sta
     (descend-remember-requires t)
     (descend-returns-2 t))
     (λ t. descend-both-lts.spec (descend-both-claims t) (descend-both-at t) descend-both.Post
+    (descend-both-sub-size t)
+    (descend-both-no-tests-requires t)
+    (descend-both-fits-here-requires t)
+    (descend-both-mark-all-requires t)
+    (descend-both-passed-over-requires t)
+    (descend-both-returns t)
     (descend-both-scan-part-requires t)
     (descend-both-enum-known-scan1 t)
     (descend-both-enum-told t)
-    (descend-both-returns t)
+    (descend-both-returns-2 t)
     (descend-both-after-part-requires t)
     (descend-both-scan-part-requires-2 t)
     (descend-both-enum-known-scan2 t)
     (descend-both-enum-told-2 t)
-    (descend-both-returns-2 t)
+    (descend-both-returns-3 t)
     (descend-both-deepest-of-requires t)
     (descend-both-sub-cost t)
     (descend-both-div-cost t)
     (descend-both-beyond-of-requires t)
     (descend-both-remember-requires t)
-    (descend-both-returns-3 t)
-    (descend-both-returns-4 t))
+    (descend-both-returns-4 t)
+    (descend-both-returns-5 t))
     (λ t. enter-lts.spec (enter-claims t) (enter-at t) enter.Post
     (enter-mul-cost t)
     (enter-element-copy-out-cost t)
     (enter-deep-at-requires t)
-    (enter-fits-again-requires t)
-    (enter-passed-again-requires t)
+    (enter-fits-here-requires t)
+    (enter-passed-over-requires t)
     (enter-returns t)
     (enter-descend-requires t)
     (enter-returns-2 t))
     (λ t. enter-both-lts.spec (enter-both-claims t) (enter-both-at t) enter-both.Post
-    (enter-both-sub-size t)
-    (enter-both-all-plain-requires t)
-    (enter-both-fits-again-requires t)
-    (enter-both-mark-all-requires t)
-    (enter-both-passed-again-requires t)
-    (enter-both-returns t)
     (enter-both-mul-cost t)
     (enter-both-element-copy-out-cost t)
     (enter-both-deep-at-requires t)
-    (enter-both-fits-again-requires-2 t)
-    (enter-both-passed-again-requires-2 t)
-    (enter-both-returns-2 t)
+    (enter-both-fits-here-requires t)
+    (enter-both-passed-over-requires t)
+    (enter-both-returns t)
     (enter-both-descend-both-requires t)
-    (enter-both-returns-3 t))
+    (enter-both-returns-2 t))
     λ t. scan-part-lts.spec (claims t) (scan-part-at t) scan-part.Post Inv-loop μ-loop
     (deep-of-requires t)
     (loop-holds t)

@@ -4,7 +4,7 @@ use Prim.Native.Nat.{_-_}
 use native.Mathlib.Omega.{arith}
 use borrow.Author.Needs.{needs}
 use Rattle.flow.specs.Inside.{markAll}
-use Rattle.flow.proofs.Plain.{mark-next, mark-none}
+use Rattle.flow.proofs.NoTests.{mark-next, mark-none}
 use Rattle.flow.proofs.scan.mark_all.Statement.{statement}
 use Rattle.flow.proofs.scan.mark_all.Tie as tie
 

@@ -1,14 +1,14 @@
--- `scan::fits_again` meets its contract. Assumes nothing.
+-- `scan::fits_here` meets its contract. Assumes nothing.
 use mathlib.Core.Path.{refl}
 use Prim.Native.Nat.{ℕ, _*_, _^_, _≤_, _<_}
 use native.Mathlib.Nat.{mul-le-mul-right}
 use native.Mathlib.Omega.{arith}
 use borrow.Author.Needs.{needs}
-use Rattle.flow.specs.Inside.{fitsAgain}
-use Rattle.flow.proofs.scan.fits_again.Statement.{statement}
-use Rattle.flow.proofs.scan.fits_again.Tie as tie
-use Rattle.flow.proofs.scan.fits_again.Reads as reads
-use Rattle.flow.proofs.scan.fits_again.Lts as lts
+use Rattle.flow.specs.Inside.{fitsHere}
+use Rattle.flow.proofs.scan.fits_here.Statement.{statement}
+use Rattle.flow.proofs.scan.fits_here.Tie as tie
+use Rattle.flow.proofs.scan.fits_here.Reads as reads
+use Rattle.flow.proofs.scan.fits_here.Lts as lts
 
 product : (w k : ℕ) → w ≤ 65536 → k < 2 ^ 32 → w * k < 2 ^ 49
 product w k h g = omega (arith, mul-le-mul-right k h)
@@ -20,11 +20,11 @@ add-sum : tie.Need-add-sum
 add-sum c = let s = c .before .before .before .before .before .before .before in record { fits = omega (arith, s .fits .total, product (s .args .part .weight) (s .args .cost) (s .pre) (s .fits .cost .fits)) }
 
 returns : tie.Need-returns
-unfolding fitsAgain
+unfolding fitsHere
 returns c = refl
 
-pub fits-again-spec : {M : Type 1} → statement M
-fits-again-spec =
+pub fits-here-spec : {M : Type 1} → statement M
+fits-here-spec =
     tie.close
     (tie.spec
     (λ c. search needs)
