@@ -60,7 +60,7 @@ pub fn damage(file: &mut Vec<u8>, layout: &Layout, random: &mut Random) {
         12 => word(file, layout, p, 0xa500_0000 | random.bits(22)),
         13 => set32(file, 8, [1, 2, any & 0xffff, any][random.below(4)]),
         14 => file[e.dvle + random.below(4)] ^= 0x20,
-        15 => file[e.dvle + 6] = [2, 3, 255][random.below(3)],
+        15 => file[e.dvle + 6] = [0, 1, 2, 3, 255][random.below(5)],
         16 => set32(
             file,
             e.dvle + [0x08, 0x0c][random.below(2)],

@@ -264,32 +264,33 @@ fn executable(
 pub(crate) const ENTRIES: [usize; 4] = [0x18, 0x20, 0x28, 0x30];
 pub(crate) const SYMBOLS: usize = 0x38;
 
-/// Now and then an executable has the tables of the next one, which lie behind both, or the first of their entries.
+/// Now and then an executable has the tables of the next one, which lie behind both; one of the two may then have only the first of the entries.
 fn share_tables(file: &mut [u8], layout: &mut Layout, random: &mut Random) {
     for i in (1..layout.executables.len()).rev() {
         if !random.one_in(4) {
             continue;
         }
         let (before, after) = layout.executables.split_at_mut(i);
-        let (taker, owner) = (&mut before[i - 1], &after[0]);
-        take_table(file, taker.dvle, owner.dvle, SYMBOLS);
-        for field in ENTRIES {
-            take_table(file, taker.dvle, owner.dvle, field);
-        }
-        let whole = random.one_in(2);
+        let (taker, owner) = (&mut before[i - 1], &mut after[0]);
+        let (first, second) = (taker.dvle, owner.dvle);
+        take_table(file, first, second, SYMBOLS);
+        let fewer = random.below(3);
         for (field, taken, owned) in [
-            (ENTRIES[0], &mut taker.constants, &owner.constants),
-            (ENTRIES[1], &mut taker.labels, &owner.labels),
-            (ENTRIES[2], &mut taker.outputs, &owner.outputs),
-            (ENTRIES[3], &mut taker.uniforms, &owner.uniforms),
+            (ENTRIES[0], &mut taker.constants, &mut owner.constants),
+            (ENTRIES[1], &mut taker.labels, &mut owner.labels),
+            (ENTRIES[2], &mut taker.outputs, &mut owner.outputs),
+            (ENTRIES[3], &mut taker.uniforms, &mut owner.uniforms),
         ] {
+            take_table(file, first, second, field);
             taken.at = owned.at;
-            taken.count = if whole {
-                owned.count
-            } else {
-                random.below(owned.count + 1)
-            };
-            set32(file, taker.dvle + field + 4, taken.count as u32);
+            taken.count = owned.count;
+            match fewer {
+                1 => taken.count = random.below(owned.count + 1),
+                2 => owned.count = random.below(owned.count + 1),
+                _ => {}
+            }
+            set32(file, first + field + 4, taken.count as u32);
+            set32(file, second + field + 4, owned.count as u32);
         }
     }
 }

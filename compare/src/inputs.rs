@@ -46,6 +46,7 @@ pub fn all() -> Vec<Input> {
         ("calls over jumps to the next word", calls_over(jumps_on())),
         ("calls over jumps to the last word", calls_over(jumps_far())),
         ("257 calls of nested IFs", nested_in_calls()),
+        ("257 calls of an IF without tests", plain_in_calls()),
         ("calls of calls", calls_in_calls()),
         ("511 jumps to the last word", only_jumps()),
     ];
@@ -166,6 +167,15 @@ fn nested_in_calls() -> Content {
         words.push(NOP);
     }
     words.extend([NOP; 2]);
+    words.push(END);
+    main_only(words)
+}
+
+/// 257 calls of one region of an IF over 253 NOPs: an IF without tests is not remembered.
+fn plain_in_calls() -> Content {
+    let mut words = vec![aimed(CALL, 257, 255); 257];
+    words.push(aimed(IFU, 511, 0));
+    words.extend([NOP; 253]);
     words.push(END);
     main_only(words)
 }
