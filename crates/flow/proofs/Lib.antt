@@ -12,6 +12,7 @@ pub mod Replay
 pub mod Passing
 pub mod Remembering
 pub mod PassedOnce
+pub mod PassedAnywhere
 pub mod Standing
 pub mod NoTests
 pub mod Tests

@@ -1,4 +1,5 @@
--- A region that the check passes once, with some opens, weight, total and marks, is passed with any others that fit, at the same cost, and adds the same words to the marks: over any rules.
+-- A region that the check passes once, with some opens, weight, total and marks, is passed with any others that fit, at the same cost, and adds no mark where its words are marked: over any
+-- rules. proofs/PassedAnywhere.antt has it for any marks.
 -- Assumes nothing.
 use mathlib.Core.Path.{_≡_, refl, sym, ap, _∙_}
 use mathlib.Core.Bool.{Bool, true, false}

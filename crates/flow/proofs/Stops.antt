@@ -112,7 +112,7 @@ module _ (C : Code) (R : Rules) where
       by (At k q) e = absurd (let z : _≡_ {A = ℕ} 0 1 = cc in omega arith)
       by Nothing e = (refl, e)
 
-  first-none : (before : ℕ) (vs : List Visit) → firstFault C R before vs ≡ Nothing → faulty vs ≡ false
+  pub first-none : (before : ℕ) (vs : List Visit) → firstFault C R before vs ≡ Nothing → faulty vs ≡ false
   unfolding faulty
   first-none before [] e = refl
   first-none before (v ∷ vs) e =
