@@ -1,4 +1,4 @@
--- A region that the check passes with some opens, weight, total and marks is passed with any others that fit, at the same cost, and adds the same words to the marks: own word by own word.
+-- A region that the check passes with some opens, weight, total and marks is passed with any others that fit, at the same cost, and adds no mark where its words are marked: own word by own word.
 -- Assumes nothing.
 use mathlib.Core.Path.{_≡_, refl, sym, ap, _∙_}
 use mathlib.Core.Bool.{Bool, true, false}

@@ -125,7 +125,7 @@ module _ (C : Code) (R : Rules) where
   passes-recalled (Call c dst num) p r k d m h q = rw (h .0, h .1, h .2) at q
   passes-recalled (Jump c dst num) p r k d m h q = absurd h
 
-  -- outside a LOOP, what is remembered of an IF is that both are passed
+  -- with no LOOP open in the same main or called region, what is remembered of an IF is that both are passed
   module _ {i : Control} {p : ℕ} {r : Part} {next : WordAddress} (h : AsksBoth i p r next) (k : ℕ) (d : Deep) (m : List Bool) where
     recalled-both : Recalled C R m i p k d → PassesBoth C R false (r .from .0) (r .to .0) (next .0) k d m
     recalled-both q = rw (h .end, h .to, h .from) (rw (h .is) at q)

@@ -148,10 +148,11 @@ module _ (C : Code) (a : Allowed) (part : Part) (total : ℕ) (m₀ : List Bool)
                 before = rw y (prefix-two C (rulesOf a) part total h (s .before) l here e (f .left t₁ z) (f .grown));
               }
 
-        -- what a part relies on: of the word's own, and of one after another
+        -- what the word's part relies on
         pub ready-part : (r : Part) → r .to .0 ≤ C .words → Weighs a r → Under (rulesOf a) (deepOf (r .opens)) → Small a → Ready C a r m′ costs depths
         ready-part r within weighs under small = record { within = within; few = few; weighs = weighs; under = under; small = small; long = long′; memory = memory′ }
 
+-- .. and a part that is scanned after another
 pub ready-after : {C : Code} {a : Allowed} {r : Part} {t : ℕ} {m m₁ : List Bool} {o : Outcome} {costs depths : List ℕ} (r′ : Part) → C .words ≤ 512 → Scans C (rulesOf a) r t m o m₁ costs depths
     → r′ .to .0 ≤ C .words → Weighs a r′ → Under (rulesOf a) (deepOf (r′ .opens)) → Small a → Ready C a r′ m₁ costs depths
 ready-after r′ few f within weighs under small = record { within = within; few = few; weighs = weighs; under = under; small = small; long = f .long; memory = f .memory }
@@ -194,7 +195,7 @@ module _ (C : Code) (a : Allowed) (r : Part) (t p : ℕ) (m : List Bool) {costs 
           left = f .left;
         }
 
--- .. the two parts of an IF, outside a LOOP
+-- .. the two parts of an IF, with no LOOP open in the same main or called region
 module _ (C : Code) (a : Allowed) (r : Part) (next : WordAddress) (t p : ℕ) (m : List Bool) {costs depths : List ℕ} (y : Ready C a r m costs depths) (h : AsksBoth (C .control p) p r next) where
   pub recalled-both-scans : {o : Outcome} → r .opens .looped ≡ false → Again C (rulesOf a) r t (getD costs p 0) (deepAt depths p) m → o ≡ passedOver r t (getD costs p 0) (deepAt depths p)
       → ScansBoth C (rulesOf a) r next t m o m costs depths

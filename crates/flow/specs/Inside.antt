@@ -52,7 +52,7 @@ abbrev pub unless : Fault → Look → Look
 unless (fault.At number word) next = Refuse number
 unless Nothing next = next
 
--- the tests of each kind of word that has some, in the order 24, 25 or 26, and its parts
+-- the tests of the words that have bounds or a target, in the order 24, 25 or 26, and their parts
 unfoldable pub lookIf : Rules → Opens → ℕ → ℕ → ℕ → ℕ → ℕ → Look
 lookIf R x w p E dst num =
     unless (orElse (faultIf (not (leb (p + 2) dst && leb (dst + num) E)) 24 p) (faultIf (leb (R .ifs) (x .ifs)) 25 p))
@@ -222,7 +222,7 @@ pub record Reaches (C : Code) (p dst : ℕ) : Type 0 where
   pub ahead : p < dst
   pub own : (E : ℕ) → dst < E → has (ownWords C (p + 1) E) dst ≡ true
 
--- what is remembered of the word at p: of a LOOP, a CALL, and an IF with no LOOP around it, the cost of its regions and what they open at most; of a jump, that its target is good
+-- what is remembered of the word at p: of a LOOP, a CALL, and an IF with no LOOP open in the same main or called region, the cost of its regions and what they open at most; of a jump, that its target is good
 abbrev pub Recalled : Code → Rules → List Bool → Control → ℕ → ℕ → Deep → Type 0
 Recalled C R m Unknown p k d = Unit {0}
 Recalled C R m Plain p k d = Unit {0}
@@ -244,13 +244,13 @@ unpacked n = record { calls = n / 65536; ifs = n / 256 % 256; loops = n % 256 }
 abbrev pub deepAt : List ℕ → ℕ → Deep
 deepAt depths p = unpacked (getD depths p 0)
 
--- two arrays: the costs, 0 where nothing is remembered, and the depths. Of a jump whose target was found the cost is 1
+-- two arrays: the costs, 0 where nothing is remembered, and the depths. Of a jump whose target was found the cost is 1, and of EMIT and BREAK, where nothing reads it
 pub record Memory (C : Code) (R : Rules) (m : List Bool) (costs depths : List ℕ) : Type 0 where
   pub costs-long : length costs ≡ 512
   pub depths-long : length depths ≡ 512
   pub recalls : (p : ℕ) → 1 ≤ getD costs p 0 → Recalled C R m (C .control p) p (getD costs p 0) (deepAt depths p)
 
--- a region that is remembered or has no tests fits
+-- a region that is remembered or has no tests fits. Nothing remembered is a cost of 0, and does not
 unfoldable pub fitsHere : Rules → Part → ℕ → ℕ → Deep → Bool
 fitsHere R r t k d =
     (((ltb 0 k && leb (r .opens .calls + d .calls) (R .calls)) && leb (r .opens .ifs + d .ifs) (R .ifs)) && leb (r .opens .loops + d .loops) (R .loops)) && leb (t + r .weight * k) (R .most)
@@ -275,7 +275,7 @@ goesOn (If c dst num) k E = false
 goesOn (Loop q dst) k E = false
 goesOn (Call c dst num) k E = false
 
--- the n words from p on have no tests: none is an EMIT, a BREAK, an IF, a LOOP, a CALL or a jump
+-- the n words from p on have none of the tests 22 to 26: none is an EMIT, a BREAK, an IF, a LOOP, a CALL or a jump
 unfoldable pub noTests : Code → ℕ → ℕ → Bool
 noTests C p zero = true
 noTests C p (suc n) = goesOn (C .control p) 0 0 && noTests C (p + 1) n

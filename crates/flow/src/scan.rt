@@ -106,7 +106,7 @@ fn stop(number: u32, p: u32) -> Outcome
     }
 }
 
-// Whether a region of this cost and depth, without the weight and what is open around it, fits in here and into the total.
+// Whether a region of this cost and depth, without the weight and what is open around it, fits in here and into the total. A cost of 0 is nothing remembered.
 fn fits_here(allowed: Allowed, part: Part, total: u32, cost: u32, deep: Deep) -> bool
     requires { ⌜ part .weight ≤ 65536 ⌝ }
     ensures { λ r. ⌜ r ≡ fitsHere (rulesOf allowed) part total cost deep ⌝ }
@@ -168,7 +168,7 @@ fn goes_on(control: Control, known: u32, end: u32) -> bool
     }
 }
 
-// Whether the words from `from` up to `to` have no tests: none is an EMIT, a BREAK, an IF, a LOOP, a CALL or a jump.
+// Whether the words from `from` up to `to` have none of the tests 22 to 26: none is an EMIT, a BREAK, an IF, a LOOP, a CALL or a jump.
 fn no_tests(words: &[u32], from: u32, to: u32) -> bool
     requires { ⌜ to ≤ length (now words) ⌝ }
     ensures { λ r. ⌜ r ≡ noTests (codeOf (now (words .entry)) 0) from (to - from) ⌝ }
@@ -221,7 +221,7 @@ fn descend(
     found
 }
 
-// Where what is remembered of that part fits, its cost is added and it is not visited again: it would meet no fault, and its words are marked.
+// Enters the part that a LOOP or a CALL at `p` asks for. Where what is remembered of it fits, its cost is added and it is not visited again: it would meet no fault, and its words are marked.
 fn enter(
     words: &[u32],
     allowed: Allowed,
