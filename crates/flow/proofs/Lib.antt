@@ -11,6 +11,7 @@ pub mod Stops
 pub mod Replay
 pub mod Passing
 pub mod Remembering
+pub mod EachVisit
 pub mod PassedOnce
 pub mod PassedAnywhere
 pub mod Standing

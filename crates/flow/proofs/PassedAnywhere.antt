@@ -15,17 +15,18 @@ use Rattle.instruction.specs.declared.flow_control.Control.the-variants.{Unknow
 use Rattle.flow.specs.Inside.{partOf, Scanned, scanned, scanOf, beyond, Under, Room, deepOf}
 use Rattle.flow.specs.Own.{nextOf, has}
 use Rattle.flow.specs.Rules.{Code, Rules, inIf, inLoop, inCall, pick}
-use Rattle.flow.specs.Visits.{Visit, Trace, nothing, follow, andThen, unlessFault, parts, faultAt, visit, region, size, trace, firstFault, total, visited}
+use Rattle.flow.specs.Visits.{Visit, Trace, nothing, follow, andThen, unlessFault, parts, faultAt, visit, region, size, trace, visited}
 use Rattle.flow.specs.declared.look.Opens.{Opens}
 use Rattle.flow.specs.declared.look.Part.{Part}
 use Rattle.flow.specs.declared.scan.Deep.{Deep}
 use Rattle.flow.specs.declared.scan.Scan.the-variants.{Go}
 use Rattle.flow.proofs.Depth.{Passed, fault-none, if-bounds, loop-bounds, call-bounds, next-in, fewer, nearer, spare-if, spare-loop, spare-call, trace-eq}
-use Rattle.flow.proofs.Marks.{flowBy, replay-flow, replay-marks}
-use Rattle.flow.proofs.PassedOnce.{passed-once}
-use Rattle.flow.proofs.Passing.{covers-self}
-use Rattle.flow.proofs.Stops.{trace-told, first-none}
-use Rattle.flow.proofs.Tests.{apart, true-not-false}
+use Rattle.flow.proofs.EachVisit.{traceOf, went-on, unstopped}
+use Rattle.flow.proofs.Marks.{replay-flow, replay-marks}
+use Rattle.flow.proofs.PassedOnce.{Within, passed-once}
+use Rattle.flow.proofs.Passing.{Below, covers-self}
+use Rattle.flow.proofs.Tests.{true-not-false}
+use Rattle.flow.proofs.Weights.{Each}
 
 -- the words of visits, in their order
 abbrev wordsOf : List Visit → List ℕ
@@ -103,30 +104,16 @@ module _ (C : Code) (R : Rules) where
   trace-alike zero x x′ w w′ p E m z = absurd (omega arith)
   trace-alike (suc n) x x′ w w′ p E m z = rw (trace-eq C R x w p E m, trace-eq C R x′ w′ p E m) (region-alike n (trace-alike n) x x′ w w′ p E m (omega arith))
 
-  abbrev visitsOf : Part → List Visit
-  visitsOf r = trace C R (r .opens) (r .weight) (r .from .0) (r .to .0) .visits
-
-  -- a scan that goes on met no fault, so that its trace is not stopped
-  no-fault : (f : Fault) (t : ℕ) {t₁ : ℕ} → flowBy f t ≡ Go t₁ → f ≡ Nothing
-  no-fault (At n q) t e = apart (cc)
-  no-fault Nothing t e = refl
-
-  went-on : (r : Part) (t : ℕ) (m : List Bool) {t₁ : ℕ} → scanOf C R r t m .flow ≡ Go t₁ → firstFault C R t (visitsOf r) ≡ Nothing
-  went-on r t m e = no-fault (firstFault C R t (visitsOf r)) (t + total (visitsOf r)) (sym (replay-flow C R (visitsOf r) t m) ∙ e)
-
-  not-stopped : (r : Part) (t : ℕ) → r .to .0 ≤ C .words → firstFault C R t (visitsOf r) ≡ Nothing → trace C R (r .opens) (r .weight) (r .from .0) (r .to .0) .stopped ≡ false
-  unfolding trace
-  not-stopped r t h e = trace-told C R (suc (size C R (r .opens) (r .from .0) (r .to .0))) (r .opens) (r .weight) (r .from .0) (r .to .0) h (omega arith) ∙ first-none C R t (visitsOf r) e
-
   -- a part is passed: to this total, and with these words added to the marks
   pub record PassedWith (r : Part) (t t₁ : ℕ) (m : List Bool) (added : ℕ → Bool) : Type 0 where
     pub flow : scanOf C R r t m .flow ≡ Go t₁
     pub marks : (i : ℕ) → i < length m → getD (scanOf C R r t m .marks) i false ≡ (added i || getD m i false)
 
-  -- passed once: its cost, the room it needs and the words it adds, which are the same wherever it fits
+  -- passed once: its cost, the room it needs (no more than the most that is open at its visits) and the words it adds, which are the same wherever it fits
   pub record Anywhere (r : Part) (t t₁ : ℕ) (m m₁ : List Bool) : Type 0 where
     pub cost : ℕ
     pub depths : Deep
+    pub least : (top : Deep) → Below (deepOf (r .opens)) top → Each (Within C R top) (traceOf C R r .visits) → Below depths top
     pub added : ℕ → Bool
     pub adds : t₁ ≡ t + r .weight * cost
     pub marks : (i : ℕ) → i < length m → getD m₁ i false ≡ (added i || getD m i false)
@@ -137,22 +124,23 @@ module _ (C : Code) (R : Rules) where
   passed-anywhere r t m {t₁} {m₁} h long under e =
       let found = passed-once C R r t m h long under e in
       let l = found .left in
-      let first = went-on r t m (sym (ap (λ (s : Scanned). s .flow) e)) in
+      let first = went-on C R r t m (sym (ap (λ (s : Scanned). s .flow) e)) in
       record {
         cost = l .cost;
         depths = found .depths;
-        added = visited (visitsOf r);
+        least = found .least;
+        added = visited (traceOf C R r .visits);
         adds = l .adds;
-        marks = λ i b. ap (λ (s : Scanned). getD (s .marks) i false) e ∙ replay-marks C R (visitsOf r) t m i b first;
+        marks = λ i b. ap (λ (s : Scanned). getD (s .marks) i false) e ∙ replay-marks C R (traceOf C R r .visits) t m i b first;
         again = λ x w u m′ same room fits.
             let r′ = partOf x w (r .from .0) (r .to .0) in
             let there = ap (λ (s : Scanned). s .flow) (l .passes .again x w u m₁ same room fits (covers-self m₁)) in
-            let second = went-on r′ u m₁ there in
-            let words = trace-alike (suc (size C R (r .opens) (r .from .0) (r .to .0))) (r .opens) x (r .weight) w (r .from .0) (r .to .0) h (omega arith) (not-stopped r t h first) (not-stopped r′ u h second) in
+            let second = went-on C R r′ u m₁ there in
+            let words = trace-alike (suc (size C R (r .opens) (r .from .0) (r .to .0))) (r .opens) x (r .weight) w (r .from .0) (r .to .0) h (omega arith) (unstopped C R r t m h (sym (ap (λ (s : Scanned). s .flow) e))) (unstopped C R r′ u m₁ h there) in
             record {
-              flow = replay-flow C R (visitsOf r′) u m′ ∙ sym (replay-flow C R (visitsOf r′) u m₁) ∙ there;
+              flow = replay-flow C R (traceOf C R r′ .visits) u m′ ∙ sym (replay-flow C R (traceOf C R r′ .visits) u m₁) ∙ there;
               marks = λ i b.
-                  replay-marks C R (visitsOf r′) u m′ i b second
-                  ∙ ap (λ (y : Bool). y || getD m′ i false) (visited-has (visitsOf r′) i ∙ ap (λ (ws : List ℕ). has ws i) (sym words) ∙ sym (visited-has (visitsOf r) i));
+                  replay-marks C R (traceOf C R r′ .visits) u m′ i b second
+                  ∙ ap (λ (y : Bool). y || getD m′ i false) (visited-has (traceOf C R r′ .visits) i ∙ ap (λ (ws : List ℕ). has ws i) (sym words) ∙ sym (visited-has (traceOf C R r .visits) i));
             };
       }

@@ -91,7 +91,7 @@ record Shift (f : ℕ) (x x′ : Opens) (w w′ : ℕ) (r r′ : Part) : Type 0 
 pub under-both : (R : Rules) (d e : Deep) → Under R d → Under R e → Under R (deepest d e)
 under-both R d e h g = (max-le (h .0) (g .0), max-le (h .1) (g .1), max-le (h .2) (g .2))
 
-abbrev Below : Deep → Deep → Type 0
+abbrev pub Below : Deep → Deep → Type 0
 Below d e = (d .calls ≤ e .calls) × (d .ifs ≤ e .ifs) × (d .loops ≤ e .loops)
 
 -- room for a region is room for its parts
