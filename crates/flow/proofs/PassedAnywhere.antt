@@ -1,5 +1,5 @@
--- The law behind the memory, over any rules: a region that the check passes with some opens, weight, total and marks is passed with any others that fit, with total + weight × cost, and adds the
--- same words to the marks. Assumes nothing.
+-- Over any rules: a region that the check passes with some opens, weight, total and marks is passed with any others that fit and agree in whether a LOOP is open in the same main or called region,
+-- with total + weight × cost, and adds the same words to the marks. The code stands on the steps of it (Passing). Assumes nothing.
 use mathlib.Core.Path.{_≡_, refl, sym, ap, ap₂, _∙_}
 use mathlib.Core.Bool.{Bool, true, false, _||_}
 use mathlib.Core.List.{List, [], _∷_, _++_}
@@ -12,7 +12,7 @@ use Rattle.answer.specs.declared.Fault.{Fault}
 use Rattle.answer.specs.declared.Fault.the-variants.{Nothing, At}
 use Rattle.instruction.specs.declared.flow_control.Control.{Control}
 use Rattle.instruction.specs.declared.flow_control.Control.the-variants.{Unknown, Plain, Emit, End, Break, If, Loop, Call, Jump}
-use Rattle.flow.specs.Inside.{partOf, Scanned, scanned, scanOf, beyond, Under, Room, deepOf}
+use Rattle.flow.specs.Inside.{partOf, Scanned, scanned, scanOf, beyond, Over, Under, Room, deepOf}
 use Rattle.flow.specs.Own.{nextOf, has}
 use Rattle.flow.specs.Rules.{Code, Rules, inIf, inLoop, inCall, pick}
 use Rattle.flow.specs.Visits.{Visit, Trace, nothing, follow, andThen, unlessFault, parts, faultAt, visit, region, size, trace, visited}
@@ -109,11 +109,13 @@ module _ (C : Code) (R : Rules) where
     pub flow : scanOf C R r t m .flow ≡ Go t₁
     pub marks : (i : ℕ) → i < length m → getD (scanOf C R r t m .marks) i false ≡ (added i || getD m i false)
 
-  -- passed once: its cost, the room it needs (no more than the most that is open at its visits) and the words it adds, which are the same wherever it fits
+  -- passed once: its cost; the depths, no more than the most that is open around it and at its visits; and the words it adds, which are the same wherever it fits
   pub record Anywhere (r : Part) (t t₁ : ℕ) (m m₁ : List Bool) : Type 0 where
     pub cost : ℕ
     pub depths : Deep
     pub least : (top : Deep) → Below (deepOf (r .opens)) top → Each (Within C R top) (traceOf C R r .visits) → Below depths top
+    pub over : Over depths (r .opens)
+    pub under : Under R depths
     pub added : ℕ → Bool
     pub adds : t₁ ≡ t + r .weight * cost
     pub marks : (i : ℕ) → i < length m → getD m₁ i false ≡ (added i || getD m i false)
@@ -129,6 +131,8 @@ module _ (C : Code) (R : Rules) where
         cost = l .cost;
         depths = found .depths;
         least = found .least;
+        over = l .over;
+        under = l .under;
         added = visited (traceOf C R r .visits);
         adds = l .adds;
         marks = λ i b. ap (λ (s : Scanned). getD (s .marks) i false) e ∙ replay-marks C R (traceOf C R r .visits) t m i b first;

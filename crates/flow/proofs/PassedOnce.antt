@@ -60,7 +60,7 @@ module _ (C : Code) (R : Rules) where
   abbrev pub Within : Deep → Visit → Type 0
   Within top v = Below (deepOf (v .opens)) top
 
-  -- what is found of a part that is passed: its cost and its depths, which are no more than the most that is open at its visits, and that it is passed wherever these fit
+  -- what is found of a part that is passed: its cost and its depths, which are no more than the most that is open around it and at its visits, and that it is passed wherever these fit
   pub record Found (part : Part) (before after : ℕ) (m : List Bool) : Type 0 where
     pub depths : Deep
     pub left : Left C R part before after depths m
@@ -203,6 +203,6 @@ module _ (C : Code) (R : Rules) where
       from-here n (known-to n) part t small h under t₁ m₁ (part .to .0) (part .from .0) t (deepOf (part .opens)) m (omega arith) (omega arith) long (prefix-none C R part t m under)
       (λ top b a. record { deep = b; rest = a }) e
 
-  -- the whole law: what is passed once costs the same and is passed wherever it fits (`Left`, `Passes`)
+  -- the law: what is passed once costs the same and is passed wherever it fits (`Left`, `Passes`)
   pub passed-once : (part : Part) (t : ℕ) (m : List Bool) {t₁ : ℕ} {m₁ : List Bool} → part .to .0 ≤ C .words → C .words ≤ length m → Under R (deepOf (part .opens)) → scanned (Go t₁) m₁ ≡ scanOf C R part t m → Found part t t₁ m₁
   passed-once part t m h long under e = known-to (suc (size C R (part .opens) (part .from .0) (part .to .0))) part t m _ _ (omega arith) h long under e
