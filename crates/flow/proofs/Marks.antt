@@ -230,10 +230,10 @@ module _ (ws : List ℕ) (R : Rules) (main E : ℕ) where
     flow-28 e h = rw (no-fault e .0, h)
 
     module _ (h : E ≤ length ws) (short : length ws ≤ 512) where
-      counted : firstFault C R 0 vs ≡ Nothing → countTo 512 (λ i. getD m′ i false) ≡ distinct vs
+      counted : firstFault C R 0 vs ≡ Nothing → countTo (length ws) (λ i. getD m′ i false) ≡ distinct vs
       counted e =
-          count-cong 512 (λ i. getD m′ i false) (visited vs) (λ i l. at i l)
-          ∙ count-distinct 512 (each-map (λ v b. omega (arith, b)) (main-in C R main E h))
+          count-cong (length ws) (λ i. getD m′ i false) (visited vs) (λ i l. at i (omega arith))
+          ∙ count-distinct (length ws) (each-map (λ v b. omega (arith, b)) (main-in C R main E h))
         where
           or-false : (b : Bool) → (b || false) ≡ b
           or-false true = refl
@@ -246,7 +246,7 @@ module _ (ws : List ℕ) (R : Rules) (main E : ℕ) where
               ∙ replay-marks C R vs 0 unmarked i (rw (length-replicate 512 false) l) e
               ∙ rw (getD-replicate 512 i false false l) (or-false (visited vs i))
 
-      pub flow-passed : {t count : ℕ} → s ≡ Go t → ended ≡ true → count ≡ countTo 512 (λ i. getD m′ i false)
+      pub flow-passed : {t count : ℕ} → s ≡ Go t → ended ≡ true → count ≡ countTo (length ws) (λ i. getD m′ i false)
           → given (record { total = t; words = count }) ≡ flowOf R ws main E
       unfolding flowOf flowFault
       flow-passed e k n = rw (no-fault e .0, k, no-fault e .1, n, counted (no-fault e .0))

@@ -24,12 +24,14 @@ pub enum Flow {
     Refused { number: u32, word: u32 },
 }
 
-fn count_marks(marks: &[bool; 512]) -> u32
-    ensures { λ r. ⌜ r ≡ countTo 512 (λ i. getD (now (marks .entry)) i false) ⌝ }
+// The marks of so many words: there are none past the words.
+fn count_marks(marks: &[bool; 512], words: usize) -> u32
+    requires { ⌜ words ≤ 512 ⌝ }
+    ensures { λ r. ⌜ r ≡ countTo words (λ i. getD (now (marks .entry)) i false) ⌝ }
 {
     let mut count = 0;
     let mut i = 0;
-    while i < 512 {
+    while i < words {
         count += marks[i] as u32;
         i += 1;
     }
@@ -88,7 +90,7 @@ fn measure(words: &[u32], emits: bool, main: u32, endmain: u32) -> Flow
         },
         Scan::Go(total) => {
             if ends_well(words, main, endmain) {
-                let count = count_marks(&marks);
+                let count = count_marks(&marks, words.len());
                 Flow::Passed {
                     total,
                     words: count,

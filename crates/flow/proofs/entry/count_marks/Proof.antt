@@ -11,10 +11,10 @@ use Rattle.flow.proofs.entry.count_marks.Statement.{statement}
 use Rattle.flow.proofs.entry.count_marks.Tie as tie
 
 abbrev Inv-loop : tie.InvT-loop
-Inv-loop marks count₀ i₀ count i = (count ≤ i) × (i ≤ 512) × (count ≡ countTo i (λ k. getD marks k false))
+Inv-loop marks words count₀ i₀ count i = (count ≤ i) × (i ≤ words) × (count ≡ countTo i (λ k. getD marks k false))
 
 abbrev μ-loop : tie.MeasureT-loop
-μ-loop marks count₀ i₀ count i = 512 - i
+μ-loop marks words count₀ i₀ count i = words - i
 
 add-count : tie.Need-add-count Inv-loop μ-loop
 add-count c =
@@ -31,7 +31,7 @@ loop-again c =
 returns : tie.Need-returns Inv-loop μ-loop
 returns c =
     let k = c .before in
-    let all : k .loop .i ≡ 512 = omega (arith, k .loop .inv .1, c .loop-test .left) in
+    let all : k .loop .i ≡ k .before .args .words = omega (arith, k .loop .inv .1, c .loop-test .left) in
     k .loop .inv .2 ∙ ap (λ n. countTo n (λ j. getD (k .before .args .marks .now) j false)) all
 
 pub count-marks-spec : {M : Type 1} → statement M
