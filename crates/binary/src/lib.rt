@@ -34,13 +34,13 @@ pub fn u8_at(s: &[u8], at: ByteOffset) -> u8
     if i < s.len() { s[i] } else { 0 }
 }
 
-fn u16_of(low: u8, high: u8) -> u16
+pub fn u16_of(low: u8, high: u8) -> u16
     ensures { λ r. ⌜ r ≡ low + high * 256 ⌝ }
 {
     low as u16 + high as u16 * 256
 }
 
-fn u32_of(low: u16, high: u16) -> u32
+pub fn u32_of(low: u16, high: u16) -> u32
     ensures { λ r. ⌜ r ≡ low + high * 65536 ⌝ }
 {
     low as u32 + high as u32 * 65536

@@ -1,9 +1,12 @@
 -- What a word uses: 'A word uses the descriptor of its ID' (document 01, 'Stepping rules'), compare operators, and the parts of an operand descriptor (document 004).
 -- Assumes nothing.
 use Prim.Native.Nat.{ℕ, _+_}
+use mathlib.Core.Bool.{Bool, true, false, not, _&&_}
 use mathlib.Core.List.{List, [], _∷_, _++_}
+use lib.Dec.{eqb}
 use Rattle.bits.specs.Fields.{field}
 use Rattle.answer.specs.Answers.{Answer, given, refused}
+use Rattle.instruction.specs.Operations.{formatOf}
 use Rattle.instruction.specs.Words.{decodeOf}
 use Rattle.instruction.specs.declared.decoding.Fields.{Fields}
 use Rattle.instruction.specs.declared.decoding.Fields.the-variants.{Format0, Format1, Format1i, Format1u, Format1c, Format2, Format3, Format4, Format5, Format5i}
@@ -12,6 +15,8 @@ use Rattle.instruction.specs.declared.operand.CompareOperators.the-varia
 use Rattle.instruction.specs.declared.operand.DescriptorId.{DescriptorId}
 use Rattle.instruction.specs.declared.operand.DescriptorId.the-variants.{Id, Unused}
 use Rattle.instruction.specs.declared.operand.Source.{Source}
+use Rattle.instruction.specs.declared.operation.Format.{Format}
+use Rattle.instruction.specs.declared.operation.Format.the-variants.{Unlisted, F0, F1, F1i, F1u, F1c, F2, F3, F4, F5, F5i}
 
 -- every format with a DESC
 abbrev pub descriptorIn : Fields → DescriptorId
@@ -52,6 +57,24 @@ operators (refused n p) = None
 
 unfoldable pub operatorsOf : ℕ → CompareOperators
 operatorsOf w = operators (decodeOf w)
+
+-- the formats of control flow and output
+abbrev pub isControl : Format → Bool
+isControl Unlisted = false
+isControl F0 = true
+isControl F1 = false
+isControl F1i = false
+isControl F1u = false
+isControl F1c = false
+isControl F2 = true
+isControl F3 = true
+isControl F4 = true
+isControl F5 = false
+isControl F5i = false
+
+-- these, but LOOP, whose register is one of four: no descriptor, no compare operator, no integer register, so that 9 to 12 refuse no value of the fields
+unfoldable pub takesAnyFields : ℕ → Bool
+takesAnyFields w = isControl (formatOf (field 26 6 w)) && not (eqb (field 26 6 w) 0x29)
 
 -- a source's parts, from its negation bit on: the selectors of component 3, 2, 1, 0
 abbrev pub sourceAt : ℕ → ℕ → Source

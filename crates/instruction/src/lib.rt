@@ -20,3 +20,4 @@ pub use operand::DescriptorId;
 pub use operand::Source;
 pub use operand::compare_operators_of;
 pub use operand::descriptor_of;
+pub use operand::takes_any_fields;

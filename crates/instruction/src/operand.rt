@@ -1,7 +1,7 @@
 // What a word uses beside its registers: an operand descriptor, compare operators. The parts of an operand descriptor.
 ghost use mathlib.Core.Path.{_≡_};
 ghost use Prim.Native.Nat.{_<_};
-ghost use Rattle.instruction.specs.Operands.{descriptorOf, operatorsOf, sourceAt, maskOf, source1Of, source2Of, source3Of};
+ghost use Rattle.instruction.specs.Operands.{descriptorOf, operatorsOf, takesAnyFields, sourceAt, maskOf, source1Of, source2Of, source3Of};
 use crate::decoding::MAD_DESC_BITS;
 use bits::field;
 
@@ -42,6 +42,14 @@ pub fn compare_operators_of(word: u32) -> CompareOperators
         0x2e..=0x2f => CompareOperators::Compares(field(word, 24, 3), field(word, 21, 3)),
         _ => CompareOperators::None,
     }
+}
+
+// Whether a library may have the word with its fields at any values: of control flow and output, but LOOP, whose register is one of four.
+pub fn takes_any_fields(word: u32) -> bool
+    ensures { λ r. ⌜ r ≡ takesAnyFields word ⌝ }
+{
+    let op = field(word, 26, 6);
+    (0x20 <= op) & (op <= 0x2d) & (op != 0x29)
 }
 
 // How a source is read: 1 if negated, and for each component which of x, y, z, w (0 to 3) it takes.

@@ -1,4 +1,5 @@
 pub mod Lists
+pub mod AnyFields
 pub mod Ones
 pub mod Placing
 pub mod Stages

@@ -5,8 +5,8 @@ ghost use Rattle.verifier.specs.Inside.{refusedBy};
 ghost use Rattle.verifier.specs.Promise.{AcceptsClean, Promises, PromisesAll};
 ghost use Rattle.verifier.specs.Verdict.{checkOf, checkedAs, judgeOf, judgedAs, reportAnswer, reportedAs};
 use crate::executables::judge_executables;
+use crate::words::load_words;
 use crate::words::words_fault;
-use crate::words::words_of;
 use answer::Fault;
 use binary::WordAddress;
 use container::Limits;
@@ -88,7 +88,8 @@ pub fn judge(file: &[u8]) -> Judged
     let program = program_of(file);
     let executables = executable_count(file);
     let count = program.words.count as usize;
-    let loaded = words_of(file, program.words);
+    let mut loaded = [0u32; 512];
+    load_words(file, program.words, &mut loaded);
     let words = &loaded[..count];
     if let Fault::At { number, place } = words_fault(words, program.descriptors.count) {
         return refused(number, place);

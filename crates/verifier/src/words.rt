@@ -1,13 +1,17 @@
 // The words of a library: refusals 9 to 12.
 ghost use mathlib.Core.Path.{_≡_};
-ghost use Prim.Native.Nat.{_≤_, min};
-ghost use lib.ListN.{length};
+ghost use mathlib.Core.Bool.{true};
+ghost use Prim.Native.Nat.{_+_, _*_, _≤_, min};
+ghost use lib.ListN.{length, replicate};
+ghost use Rattle.binary.specs.Bytes.{u32At};
 ghost use Rattle.verifier.specs.Words.{loadedWords, isUnknown, badOperators, undescribed, badRegister, wordFault, wordsFault};
 use answer::Fault;
 use binary::WordAddress;
 use binary::offset_of_word;
 use binary::tail;
+use binary::u16_of;
 use binary::u32_at;
+use binary::u32_of;
 use container::Table;
 use instruction::CompareOperators;
 use instruction::Control;
@@ -15,6 +19,7 @@ use instruction::DescriptorId;
 use instruction::compare_operators_of;
 use instruction::control_of;
 use instruction::descriptor_of;
+use instruction::takes_any_fields;
 
 pub(crate) fn least(a: u32, b: u32) -> u32
     ensures { λ r. ⌜ r ≡ min a b ⌝ }
@@ -22,17 +27,41 @@ pub(crate) fn least(a: u32, b: u32) -> u32
     if a < b { a } else { b }
 }
 
+// The word at `p` of a table. If the whole table is there the bytes are taken by index, so that the compiler copies many at once.
+fn word_at(bytes: &[u8], whole: bool, p: u32) -> u32
+    requires { ⌜ (whole ≡ true → p * 4 + 4 ≤ length (now bytes)) ⌝ }
+    ensures { λ r. ⌜ r ≡ u32At (now (bytes .entry)) (p * 4) ⌝ }
+{
+    if whole {
+        let at = p as usize * 4;
+        let low = u16_of(bytes[at], bytes[at + 1]);
+        let high = u16_of(bytes[at + 2], bytes[at + 3]);
+        return u32_of(low, high);
+    }
+    u32_at(bytes, offset_of_word(WordAddress(p)))
+}
+
+// Puts the words of the opcode table into an array of zeros: of more than 512 the first. In a file that passed 1 to 8 the whole table is there.
+pub(crate) fn load_words(file: &[u8], table: Table, words: &mut [u32; 512])
+    requires { ⌜ now words ≡ replicate 512 0 ⌝ }
+    ensures { λ _. ⌜ now (words .exit) ≡ loadedWords (now (file .entry)) table ⌝ }
+{
+    let start = table.start;
+    let bytes = tail(file, start);
+    let count = least(table.count, 512);
+    let whole = count as usize * 4 <= bytes.len();
+    for p in 0..count {
+        let i = p as usize;
+        words[i] = word_at(bytes, whole, p);
+    }
+}
+
 // The words of the opcode table in an array: of more than 512 the first, and after fewer zeros.
 pub fn words_of(file: &[u8], table: Table) -> [u32; 512]
     ensures { λ r. ⌜ r ≡ loadedWords (now (file .entry)) table ⌝ }
 {
-    let start = table.start;
-    let bytes = tail(file, start);
     let mut words = [0u32; 512];
-    for p in 0..least(table.count, 512) {
-        let i = p as usize;
-        words[i] = u32_at(bytes, offset_of_word(WordAddress(p)));
-    }
+    load_words(file, table, &mut words);
     words
 }
 
@@ -86,10 +115,13 @@ fn has_bad_register(control: Control) -> bool
     }
 }
 
-// The fault of one word, in a library of so many descriptors.
+// The fault of one word, in a library of so many descriptors. Words of control flow, all but LOOP, have none.
 fn word_fault(word: u32, descriptors: u32, place: u32) -> Fault
     ensures { λ r. ⌜ r ≡ wordFault descriptors word place ⌝ }
 {
+    if takes_any_fields(word) {
+        return Fault::Nothing;
+    }
     let control = control_of(word);
     let unknown = is_unknown(control);
     let operators = has_bad_operators(compare_operators_of(word));

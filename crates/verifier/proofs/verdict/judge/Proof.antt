@@ -14,43 +14,52 @@ returns c =
 
 array-share-prefix-loaded : tie.Need-array-share-prefix-loaded
 array-share-prefix-loaded c =
-    let k = c .before .before .before .before in
-    loaded-enough (k .before .before .before .before .args .file .now) (c .before .before .before .program-of .result .words) (c .words-of .ensures) (words-fit (k .before .before .before .before .args .file .now) (sym (k .before .before .library-fault .ensures) ∙ k .enum-told .given .1) (c .before .before .before .program-of .ensures))
+    let w = c in
+    let file = w .before .before .before .before .before .before .before .before .before .args .file .now in
+    let a = sym (w .before .before .before .before .before .before .before .library-fault .ensures) ∙ w .before .before .before .before .before .enum-told .given .1 in
+    let p = w .before .before .before .before .program-of in
+    loaded-enough file (p .result .words) (w .load-words .ensures) (words-fit file a (p .ensures))
 
 slice-aggregate-words : tie.Need-slice-aggregate-words
 slice-aggregate-words c =
-    let k = c .before .before .before .before .before in
-    sym (loaded-length (k .before .before .before .before .args .file .now) (c .before .before .before .before .program-of .result .words) (c .before .words-of .ensures) (words-fit (k .before .before .before .before .args .file .now) (sym (k .before .before .library-fault .ensures) ∙ k .enum-told .given .1) (c .before .before .before .before .program-of .ensures)))
+    let w = c .before in
+    let file = w .before .before .before .before .before .before .before .before .before .args .file .now in
+    let a = sym (w .before .before .before .before .before .before .before .library-fault .ensures) ∙ w .before .before .before .before .before .enum-told .given .1 in
+    let p = w .before .before .before .before .program-of in
+    sym (loaded-length file (p .result .words) (w .load-words .ensures) (words-fit file a (p .ensures)))
 
 words-fault-requires : tie.Need-words-fault-requires
 words-fault-requires c κs =
-    let k = c .before .before .before .before .before in
-    let a = sym (k .before .before .library-fault .ensures) ∙ k .enum-told .given .1 in
-    let b = c .before .before .before .before .program-of .ensures in
-    let file = k .before .before .before .before .args .file .now in
-    omega (arith, loaded-length file (c .before .before .before .before .program-of .result .words) (c .before .words-of .ensures) (words-fit file a b), words-fit file a b)
+    let w = c .before in
+    let file = w .before .before .before .before .before .before .before .before .before .args .file .now in
+    let a = sym (w .before .before .before .before .before .before .before .library-fault .ensures) ∙ w .before .before .before .before .before .enum-told .given .1 in
+    let p = w .before .before .before .before .program-of in
+    let few = words-fit file a (p .ensures) in
+    omega (arith, loaded-length file (p .result .words) (w .load-words .ensures) few, few)
 
 returns-2 : tie.Need-returns-2
 returns-2 c =
-    let j = c .before .before .before .before in
-    let k = j .before .before .before .before .before .before in
-    refused-by-words (k .before .before .before .before .args .file .now) (sym (k .before .before .library-fault .ensures) ∙ k .enum-told .given .1) (j .before .before .before .before .before .program-of .ensures) (j .before .before .words-of .ensures)
-    (j .words-fault .ensures) (c .before .before .number2 .given .1) (c .refused2 .ensures)
+    let w = c .before .before .before .before .before .before in
+    let file = w .before .before .before .before .before .before .before .before .before .args .file .now in
+    let a = sym (w .before .before .before .before .before .before .before .library-fault .ensures) ∙ w .before .before .before .before .before .enum-told .given .1 in
+    let p = w .before .before .before .before .program-of in
+    refused-by-words file a (p .ensures) (w .load-words .ensures) (c .before .before .before .before .words-fault .ensures) (c .before .before .number2 .given .1) (c .refused2 .ensures)
 
 judge-executables-requires : tie.Need-judge-executables-requires
 judge-executables-requires c κs =
-    let j = c .before .before in
-    let k = j .before .before .before .before .before .before in
-    let a = sym (k .before .before .library-fault .ensures) ∙ k .enum-told .given .1 in
-    let file = k .before .before .before .before .args .file .now in
-    (loaded file a (j .before .before .before .before .before .program-of .ensures) (j .before .before .words-of .ensures) _, omega (arith, few-executables file a (j .before .before .before .before .executable-count .ensures)))
+    let w = c .before .before .before .before in
+    let file = w .before .before .before .before .before .before .before .before .before .args .file .now in
+    let a = sym (w .before .before .before .before .before .before .before .library-fault .ensures) ∙ w .before .before .before .before .before .enum-told .given .1 in
+    let p = w .before .before .before .before .program-of in
+    (loaded file a (p .ensures) (w .load-words .ensures) _, omega (arith, few-executables file a (w .before .before .before .executable-count .ensures)))
 
 returns-3 : tie.Need-returns-3
 returns-3 c =
-    let j = c .before .before .before in
-    let k = j .before .before .before .before .before .before in
-    judged-executables (k .before .before .before .before .args .file .now) (sym (k .before .before .library-fault .ensures) ∙ k .enum-told .given .1) (j .before .before .before .before .before .program-of .ensures) (j .before .before .words-of .ensures)
-    (j .words-fault .ensures) (c .before .enum-told2 .given .1) (j .before .before .before .before .executable-count .ensures) (c .judge-executables .ensures)
+    let w = c .before .before .before .before .before in
+    let file = w .before .before .before .before .before .before .before .before .before .args .file .now in
+    let a = sym (w .before .before .before .before .before .before .before .library-fault .ensures) ∙ w .before .before .before .before .before .enum-told .given .1 in
+    let p = w .before .before .before .before .program-of in
+    judged-executables file a (p .ensures) (w .load-words .ensures) (c .before .before .before .words-fault .ensures) (c .before .enum-told2 .given .1) (w .before .before .before .executable-count .ensures) (c .judge-executables .ensures)
 
 pub judge-spec : {M : Type 1} → statement M
 judge-spec =

@@ -1,29 +1,36 @@
--- `words::words_of` meets its contract. Before each turn the words below p are there. Assumes nothing.
-use mathlib.Core.Path.{_≡_, sym, ap, _∙_}
+-- `words::load_words` meets its contract. Before each turn the words below p are there. Assumes nothing.
+use mathlib.Core.Path.{_≡_, _∙_}
 use Prim.Native.Nat.{ℕ, _+_, _*_, _-_, _≤_, _<_, min}
 use native.Mathlib.Omega.{arith}
+use lib.ListN.{length}
 use borrow.Author.Needs.{needs}
+use borrow.Author.Tests.{leb-true}
 use Rattle.binary.specs.Bytes.{u32At}
 use Rattle.verifier.specs.Lists.{filled}
 use Rattle.verifier.proofs.Lists.{filled-none, filled-next, table-drop}
-use Rattle.verifier.proofs.words.words_of.Statement.{statement}
-use Rattle.verifier.proofs.words.words_of.Tie as tie
+use Rattle.verifier.proofs.words.load_words.Statement.{statement}
+use Rattle.verifier.proofs.words.load_words.Tie as tie
 
 abbrev Inv-loop : tie.InvT-loop
-Inv-loop file bytes words₀ p₀ p-end words p = (p ≤ p-end) × (words ≡ filled (λ k. u32At bytes (k * 4)) 0 512 p 0)
+Inv-loop file words₀ bytes count whole p₀ words p = (p ≤ count) × (words ≡ filled (λ k. u32At bytes (k * 4)) 0 512 p 0)
 
 abbrev μ-loop : tie.MeasureT-loop
-μ-loop file bytes words₀ p₀ p-end words p = p-end - p
+μ-loop file words₀ bytes count whole p₀ words p = count - p
 
 loop-holds : tie.Need-loop-holds Inv-loop μ-loop
-loop-holds c = (search needs, filled-none _ 0 512 0)
+loop-holds c = (search needs, c .before .before .before .before .pre ∙ filled-none _ 0 512 0)
+
+word-at-requires : tie.Need-word-at-requires Inv-loop μ-loop
+word-at-requires c κs =
+    let k = c .before .before in
+    λ t. omega (arith, leb-true (k .least .result * 4) (length (k .before .tail .result .now)) t)
 
 loop-again : tie.Need-loop-again Inv-loop μ-loop
 loop-again c =
-    let k = c .before .before .before in
+    let k = c .before .before in
     let short : k .loop .p < 512 = omega (arith, k .before .least .ensures) in
     let z : 0 + k .loop .p ≡ k .loop .p = omega arith in
-    (search needs, rw (k .loop .inv .1, c .u32-at .ensures, c .before .offset-of-word .ensures) (rw z at (filled-next (λ n. u32At (k .before .before .tail .result .now) (n * 4)) 0 512 0 (k .loop .p) short)))
+    (search needs, rw (k .loop .inv .1, c .word-at .ensures) (rw z at (filled-next (λ n. u32At (k .before .before .tail .result .now) (n * 4)) 0 512 0 (k .loop .p) short)))
 
 returns : tie.Need-returns Inv-loop μ-loop
 returns c =
@@ -32,18 +39,19 @@ returns c =
     let all : k .loop .p ≡ min (s .args .table .count) 512 = omega (arith, k .before .least .ensures) in
     k .loop .inv .1 ∙ rw all (table-drop (s .args .file .now) (s .args .table .start .0) 4 512 (min (s .args .table .count) 512) (k .before .before .tail .ensures))
 
-pub words-of-spec : {M : Type 1} → statement M
-words-of-spec =
+pub load-words-spec : {M : Type 1} → statement M
+load-words-spec =
     tie.close
     (tie.spec
     Inv-loop
     μ-loop
     (λ c κs. search needs)
     (λ c κs. search needs)
+    (λ c. search needs)
+    (λ c. search needs)
     loop-holds
     (λ c. search needs)
-    (λ c κs. search needs)
-    (λ c κs. search needs)
+    word-at-requires
     (λ c. search needs)
     (λ c. search needs)
     (λ c. search needs)
