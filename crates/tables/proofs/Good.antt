@@ -1,5 +1,5 @@
 -- Whether an entry is good, read off what it converts to. Assumes nothing.
-use mathlib.Core.Path.{_≡_, refl}
+use mathlib.Core.Path.{_≡_, refl, sym, ap, _∙_}
 use mathlib.Core.Bool.{Bool, true, false, not}
 use Rattle.tables.specs.Constants.{constantIf, isBad}
 use Rattle.tables.specs.declared.constants.Constant.{Constant}
@@ -12,3 +12,7 @@ good-if false c = refl
 pub twice-not : (b : Bool) → not (not b) ≡ b
 twice-not true = refl
 twice-not false = refl
+
+-- what a test answers, told by the outcome of its negation
+pub asked : {b g r : Bool} → b ≡ g → not b ≡ r → g ≡ not r
+asked {b} e t = sym e ∙ sym (twice-not b) ∙ ap not t

@@ -95,11 +95,24 @@ fn is_bytes(e: ConstantEntry) -> bool
     e.id <= 3
 }
 
+// The four words of a vector one after another: compared at once they would be loaded as sixteen bytes, which waits for the four stores that they come from.
 fn is_vector(e: ConstantEntry) -> bool
     ensures { λ r. ⌜ r ≡ not (isBad (vectorOf e)) ⌝ }
 {
-    let floats = is_float24(e.x) & is_float24(e.y) & is_float24(e.z) & is_float24(e.w);
-    (e.id <= 95) & floats
+    let listed = e.id <= 95;
+    if !listed {
+        return false;
+    }
+    if !is_float24(e.x) {
+        return false;
+    }
+    if !is_float24(e.y) {
+        return false;
+    }
+    if !is_float24(e.z) {
+        return false;
+    }
+    is_float24(e.w)
 }
 
 fn flag_of(e: ConstantEntry) -> Converted
