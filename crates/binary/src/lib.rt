@@ -34,12 +34,14 @@ pub fn u8_at(s: &[u8], at: ByteOffset) -> u8
     if i < s.len() { s[i] } else { 0 }
 }
 
+// The number of two bytes, the low one first.
 pub fn u16_of(low: u8, high: u8) -> u16
     ensures { λ r. ⌜ r ≡ low + high * 256 ⌝ }
 {
     low as u16 + high as u16 * 256
 }
 
+// The number of two halves, the low one first.
 pub fn u32_of(low: u16, high: u16) -> u32
     ensures { λ r. ⌜ r ≡ low + high * 65536 ⌝ }
 {

@@ -14,7 +14,7 @@ use Rattle.bits.specs.Fields.{field}
 use Rattle.bits.proofs.Laws.{field-lt}
 use Rattle.bits.proofs.Ranges.{allFrom, from-all}
 use Rattle.instruction.specs.Control.{control, controlOf, isBlock, ofFormat0, ofFormat2, ofFormat3}
-use Rattle.instruction.specs.Operands.{isControl, takesAnyFields}
+use Rattle.instruction.specs.Operands.{descriptor, descriptorOf, isFree, isUnused, takesAnyFields}
 use Rattle.instruction.specs.Operations.{formatOf, operations}
 use Rattle.instruction.specs.Words.{decodeAs, decodeOf}
 use Rattle.instruction.specs.declared.decoding.Fields.{Fields}
@@ -91,27 +91,35 @@ fromOpcode w F4 = ((λ k. Emit), refl)
 fromOpcode w F5 = ((λ k. Plain), refl)
 fromOpcode w F5i = ((λ k. Plain), refl)
 
--- a test of a range of opcodes, computed once at each opcode below it, in it and above it
-module _ (f : ℕ → Bool) (lo n above : ℕ) (none : replicate lo false ≡ tableFrom f 0 lo) (all : replicate n true ≡ tableFrom f lo n) (no-more : replicate above false ≡ tableFrom f (lo + n) above) where
-  pub in-range : (hi op : ℕ) → suc hi ≡ lo + n → op < lo + n + above → (leb lo op && leb op hi) ≡ f op
-  in-range hi op h l = at (leb lo op) (leb op hi) refl refl
-    where
-      at : (a b : Bool) → leb lo op ≡ a → leb op hi ≡ b → (a && b) ≡ f op
-      at false b s t = one-value f false 0 lo none op (omega arith) (omega (arith, leb-false lo op s))
-      at true true s t = one-value f true lo n all op (leb-true lo op s) (omega (arith, leb-true op hi t))
-      at true false s t = one-value f false (lo + n) above no-more op (omega (arith, leb-false op hi t)) l
-
 -- IF and LOOP have the opcodes 27h to 29h
 pub block-of : (w : ℕ) {op : ℕ} → op ≡ field 26 6 w → (leb 0x27 op && leb op 0x29) ≡ isBlock (controlOf w)
 unfolding controlOf decodeOf formatOf operations
-block-of w {op} e = in-range block 0x27 3 22 refl refl refl 0x29 op refl (omega (arith, e, field-lt 26 6 w)) ∙ ap block e ∙ ap isBlock (fromOpcode w (formatOf (field 26 6 w)) .1)
+block-of w {op} e = at (leb 0x27 op) (leb op 0x29) refl refl ∙ ap block e ∙ ap isBlock (fromOpcode w (formatOf (field 26 6 w)) .1)
   where
     block : ℕ → Bool
     block k = isBlock (fromOpcode w (formatOf k) .0 k)
 
--- the formats of control flow and output have the opcodes 20h to 2Dh
+    at : (a b : Bool) → leb 0x27 op ≡ a → leb op 0x29 ≡ b → (a && b) ≡ block op
+    at false b s t = one-value block false 0x00 39 refl op (omega arith) (leb-false 0x27 op s)
+    at true true s t = one-value block true 0x27 3 refl op (leb-true 0x27 op s) (omega (arith, leb-true op 0x29 t))
+    at true false s t = one-value block false 0x2a 22 refl op (leb-false op 0x29 t) (omega (arith, e, field-lt 26 6 w))
+
+-- a word takes any fields at 20h to 2Dh but 29h, LOOP
 pub any-fields-of : (w : ℕ) {op : ℕ} → op ≡ field 26 6 w → ((leb 0x20 op && leb op 0x2d) && not (eqb op 0x29)) ≡ takesAnyFields w
-unfolding takesAnyFields formatOf operations
+unfolding takesAnyFields controlOf descriptorOf decodeOf formatOf operations
 any-fields-of w {op} e =
-    ap (λ (b : Bool). b && not (eqb op 0x29)) (in-range (λ k. isControl (formatOf k)) 0x20 14 18 refl refl refl 0x2d op refl (omega (arith, e, field-lt 26 6 w)))
-    ∙ ap (λ (k : ℕ). isControl (formatOf k) && not (eqb k 0x29)) e
+    at (leb 0x20 op) (leb op 0x2d) (eqb op 0x29) refl refl refl ∙ ap any e
+    ∙ ap (λ (c : Control). isFree c && isUnused (descriptor (decodeAs (formatOf (field 26 6 w)) w))) (fromOpcode w (formatOf (field 26 6 w)) .1)
+  where
+    any : ℕ → Bool
+    any k = isFree (fromOpcode w (formatOf k) .0 k) && isUnused (descriptor (decodeAs (formatOf k) w))
+
+    beside : (a : Bool) → leb op 0x28 ≡ a → 0x20 ≤ op → op ≤ 0x2d → (op ≡ 0x29 → ⊥) → true ≡ any op
+    beside true s lo hi other = one-value any true 0x20 9 refl op lo (omega (arith, leb-true op 0x28 s))
+    beside false s lo hi other = one-value any true 0x2a 4 refl op (omega (arith, leb-false op 0x28 s, other)) (omega arith)
+
+    at : (a b c : Bool) → leb 0x20 op ≡ a → leb op 0x2d ≡ b → eqb op 0x29 ≡ c → ((a && b) && not c) ≡ any op
+    at false b c s t u = one-value any false 0x00 32 refl op (omega arith) (leb-false 0x20 op s)
+    at true false c s t u = one-value any false 0x2e 18 refl op (leb-false op 0x2d t) (omega (arith, e, field-lt 26 6 w))
+    at true true true s t u = one-value any false 0x29 1 refl op (omega (arith, eqb-true op 0x29 u)) (omega (arith, eqb-true op 0x29 u))
+    at true true false s t u = beside (leb op 0x28) refl (leb-true 0x20 op s) (leb-true op 0x2d t) (eqb-false op 0x29 u)

@@ -1,11 +1,12 @@
 -- Words that document 01 prints, and one of each kind that it describes, through the definitions. Assumes nothing.
 use mathlib.Core.Path.{_≡_, refl}
+use mathlib.Core.Bool.{true, false}
 use mathlib.Core.List.{List, [], _∷_, map}
 use Prim.Native.Nat.{ℕ}
 use Rattle.binary.specs.Addresses.{wordAddress}
 use Rattle.answer.specs.Answers.{given, refused}
 use Rattle.instruction.specs.Control.{controlOf}
-use Rattle.instruction.specs.Operands.{descriptorOf, operatorsOf, descriptorParts}
+use Rattle.instruction.specs.Operands.{descriptorOf, operatorsOf, takesAnyFields, descriptorParts}
 use Rattle.instruction.specs.Operations.{operations, formatOf, entryFormat}
 use Rattle.instruction.specs.Words.{decodeOf, encodeOf}
 use Rattle.instruction.specs.declared.decoding.Fields.the-variants.{Format0, Format1, Format1u, Format1c, Format3, Format5}
@@ -43,6 +44,12 @@ descriptors = refl
 operators : map operatorsOf (0xbd400009 ∷ 0xb9000000 ∷ 0x4c000000 ∷ 0x40000000 ∷ []) ≡ Compares 5 2 ∷ Compares 1 0 ∷ None ∷ None ∷ []
 unfolding operatorsOf decodeOf formatOf operations
 operators = refl
+
+-- NOP, CALLU, SETEMIT, JMPU; LOOP, CMP, MOV, an unknown word
+any-fields : map takesAnyFields (0x84000000 ∷ 0x99400c01 ∷ 0xac000000 ∷ 0xb4000800 ∷ 0xa4400800 ∷ 0xbd400009 ∷ 0x4c000000 ∷ 0x40000000 ∷ [])
+    ≡ true ∷ true ∷ true ∷ true ∷ false ∷ false ∷ false ∷ false ∷ []
+unfolding takesAnyFields controlOf descriptorOf decodeOf formatOf operations
+any-fields = refl
 
 -- descriptor 0D86C36Fh of the example: all components written, no source negated, xyzw of each
 parts : descriptorParts 0x0d86c36f ≡ 15 ∷ 0 ∷ 3 ∷ 2 ∷ 1 ∷ 0 ∷ 0 ∷ 3 ∷ 2 ∷ 1 ∷ 0 ∷ 0 ∷ 3 ∷ 2 ∷ 1 ∷ 0 ∷ 0 ∷ []

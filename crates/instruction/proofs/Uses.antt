@@ -1,5 +1,5 @@
--- What is known of a word's control and descriptor ID: unknown exactly if the word is; an ID of 7 bits at most. Assumes nothing.
-use mathlib.Core.Path.{_≡_, sym, ap, subst, _∙_}
+-- What is known of a word's control, descriptor ID and operators: unknown exactly if the word is; an ID of 7 bits at most; no operators without a descriptor. Assumes nothing.
+use mathlib.Core.Path.{_≡_, refl, sym, ap, subst, _∙_}
 use mathlib.Core.Bool.{Bool, true, false}
 use Prim.Native.Nat.{ℕ, _<_}
 use native.Mathlib.Omega.{arith}
@@ -8,13 +8,14 @@ use Rattle.answer.specs.Answers.{Answer, given, refused}
 use Rattle.bits.specs.Fields.{field}
 use Rattle.bits.proofs.Laws.{field-lt}
 use Rattle.instruction.specs.Control.{when, controlIn, control, controlOf}
-use Rattle.instruction.specs.Operands.{descriptor, descriptorOf}
+use Rattle.instruction.specs.Operands.{descriptor, descriptorOf, isUnused, operators, operatorsOf}
 use Rattle.instruction.specs.Operations.{formatOf}
 use Rattle.instruction.specs.Words.{decodeAs, decodeOf}
 use Rattle.instruction.specs.declared.decoding.Fields.{Fields}
 use Rattle.instruction.specs.declared.decoding.Fields.the-variants.{Format0, Format1, Format1i, Format1u, Format1c, Format2, Format3, Format4, Format5, Format5i}
 use Rattle.instruction.specs.declared.flow_control.Control.{Control}
 use Rattle.instruction.specs.declared.flow_control.Control.the-variants.{Unknown, Plain, Emit, End, Break, If, Loop, Call, Jump}
+use Rattle.instruction.specs.declared.operand.CompareOperators.the-variants.{None}
 use Rattle.instruction.specs.declared.operand.DescriptorId.{DescriptorId}
 use Rattle.instruction.specs.declared.operand.DescriptorId.the-variants.{Id, Unused}
 use Rattle.instruction.specs.declared.operation.Format.{Format}
@@ -78,3 +79,20 @@ id-of-format F5i w = omega (arith, field-lt 0 5 w)
 pub id-lt : (w n : ℕ) → descriptorOf w ≡ Id n → n < 128
 unfolding descriptorOf decodeOf BelowId
 id-lt w n e = rw e at (id-of-format (formatOf (field 26 6 w)) w)
+
+none-of-format : (g : Format) (w : ℕ) → isUnused (descriptor (decodeAs g w)) ≡ true → operators (decodeAs g w) ≡ None
+none-of-format Unlisted w e = refl
+none-of-format F0 w e = refl
+none-of-format F1 w e = refl
+none-of-format F1i w e = refl
+none-of-format F1u w e = refl
+none-of-format F1c w e = absurd (subst T (sym e) tt)
+none-of-format F2 w e = refl
+none-of-format F3 w e = refl
+none-of-format F4 w e = refl
+none-of-format F5 w e = refl
+none-of-format F5i w e = refl
+
+pub no-operators : (w : ℕ) → isUnused (descriptorOf w) ≡ true → operatorsOf w ≡ None
+unfolding descriptorOf operatorsOf decodeOf
+no-operators w e = none-of-format (formatOf (field 26 6 w)) w e

@@ -1,22 +1,21 @@
 -- What a word uses: 'A word uses the descriptor of its ID' (document 01, 'Stepping rules'), compare operators, and the parts of an operand descriptor (document 004).
 -- Assumes nothing.
 use Prim.Native.Nat.{ℕ, _+_}
-use mathlib.Core.Bool.{Bool, true, false, not, _&&_}
+use mathlib.Core.Bool.{Bool, true, false, _&&_}
 use mathlib.Core.List.{List, [], _∷_, _++_}
-use lib.Dec.{eqb}
 use Rattle.bits.specs.Fields.{field}
 use Rattle.answer.specs.Answers.{Answer, given, refused}
-use Rattle.instruction.specs.Operations.{formatOf}
+use Rattle.instruction.specs.Control.{controlOf}
 use Rattle.instruction.specs.Words.{decodeOf}
 use Rattle.instruction.specs.declared.decoding.Fields.{Fields}
 use Rattle.instruction.specs.declared.decoding.Fields.the-variants.{Format0, Format1, Format1i, Format1u, Format1c, Format2, Format3, Format4, Format5, Format5i}
+use Rattle.instruction.specs.declared.flow_control.Control.{Control}
+use Rattle.instruction.specs.declared.flow_control.Control.the-variants.{Unknown, Plain, Emit, End, Break, If, Loop, Call, Jump}
 use Rattle.instruction.specs.declared.operand.CompareOperators.{CompareOperators}
 use Rattle.instruction.specs.declared.operand.CompareOperators.the-variants.{Compares, None}
 use Rattle.instruction.specs.declared.operand.DescriptorId.{DescriptorId}
 use Rattle.instruction.specs.declared.operand.DescriptorId.the-variants.{Id, Unused}
 use Rattle.instruction.specs.declared.operand.Source.{Source}
-use Rattle.instruction.specs.declared.operation.Format.{Format}
-use Rattle.instruction.specs.declared.operation.Format.the-variants.{Unlisted, F0, F1, F1i, F1u, F1c, F2, F3, F4, F5, F5i}
 
 -- every format with a DESC
 abbrev pub descriptorIn : Fields → DescriptorId
@@ -58,23 +57,25 @@ operators (refused n p) = None
 unfoldable pub operatorsOf : ℕ → CompareOperators
 operatorsOf w = operators (decodeOf w)
 
--- the formats of control flow and output
-abbrev pub isControl : Format → Bool
-isControl Unlisted = false
-isControl F0 = true
-isControl F1 = false
-isControl F1i = false
-isControl F1u = false
-isControl F1c = false
-isControl F2 = true
-isControl F3 = true
-isControl F4 = true
-isControl F5 = false
-isControl F5i = false
+-- a known word, and no LOOP, which has an integer register
+abbrev pub isFree : Control → Bool
+isFree Unknown = false
+isFree Plain = true
+isFree Emit = true
+isFree End = true
+isFree (Break c) = true
+isFree (If c dst num) = true
+isFree (Loop r dst) = false
+isFree (Call c dst num) = true
+isFree (Jump c dst num) = true
 
--- these, but LOOP, whose register is one of four: no descriptor, no compare operator, no integer register, so that 9 to 12 refuse no value of the fields
+abbrev pub isUnused : DescriptorId → Bool
+isUnused (Id n) = false
+isUnused Unused = true
+
+-- nothing that 9 to 12 ask for: such a word is good whatever its fields hold
 unfoldable pub takesAnyFields : ℕ → Bool
-takesAnyFields w = isControl (formatOf (field 26 6 w)) && not (eqb (field 26 6 w) 0x29)
+takesAnyFields w = isFree (controlOf w) && isUnused (descriptorOf w)
 
 -- a source's parts, from its negation bit on: the selectors of component 3, 2, 1, 0
 abbrev pub sourceAt : ℕ → ℕ → Source

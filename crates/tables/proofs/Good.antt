@@ -1,4 +1,4 @@
--- Whether an entry is good, read off what it converts to. Assumes nothing.
+-- Whether an entry is good, read off what it converts to, and negations. Assumes nothing.
 use mathlib.Core.Path.{_≡_, refl, sym, ap, _∙_}
 use mathlib.Core.Bool.{Bool, true, false, not}
 use Rattle.tables.specs.Constants.{constantIf, isBad}

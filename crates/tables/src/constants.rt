@@ -95,12 +95,11 @@ fn is_bytes(e: ConstantEntry) -> bool
     e.id <= 3
 }
 
-// The four words of a vector one after another: compared at once they would be loaded as sixteen bytes, which waits for the four stores that they come from.
+// One word after another: joined by `&` all four are loaded as one vector, and that load waits for the four stores before it.
 fn is_vector(e: ConstantEntry) -> bool
     ensures { λ r. ⌜ r ≡ not (isBad (vectorOf e)) ⌝ }
 {
-    let listed = e.id <= 95;
-    if !listed {
+    if 95 < e.id {
         return false;
     }
     if !is_float24(e.x) {

@@ -27,21 +27,22 @@ pub(crate) fn least(a: u32, b: u32) -> u32
     if a < b { a } else { b }
 }
 
-// The word at `p` of a table. If the whole table is there the bytes are taken by index, so that the compiler copies many at once.
+// The word at `p` of a table. If the whole table is there no length is tested, so that the compiler copies many words at once.
 fn word_at(bytes: &[u8], whole: bool, p: u32) -> u32
     requires { ⌜ (whole ≡ true → p * 4 + 4 ≤ length (now bytes)) ⌝ }
     ensures { λ r. ⌜ r ≡ u32At (now (bytes .entry)) (p * 4) ⌝ }
 {
+    let at = offset_of_word(WordAddress(p));
     if whole {
-        let at = p as usize * 4;
-        let low = u16_of(bytes[at], bytes[at + 1]);
-        let high = u16_of(bytes[at + 2], bytes[at + 3]);
+        let i = at.0 as usize;
+        let low = u16_of(bytes[i], bytes[i + 1]);
+        let high = u16_of(bytes[i + 2], bytes[i + 3]);
         return u32_of(low, high);
     }
-    u32_at(bytes, offset_of_word(WordAddress(p)))
+    u32_at(bytes, at)
 }
 
-// Puts the words of the opcode table into an array of zeros: of more than 512 the first. In a file that passed 1 to 8 the whole table is there.
+// Fills the caller's array of zeros with the words of the opcode table, of more than 512 the first: handed back by value it would be copied. After 1 to 8 the whole table is there.
 pub(crate) fn load_words(file: &[u8], table: Table, words: &mut [u32; 512])
     requires { ⌜ now words ≡ replicate 512 0 ⌝ }
     ensures { λ _. ⌜ now (words .exit) ≡ loadedWords (now (file .entry)) table ⌝ }
@@ -49,7 +50,8 @@ pub(crate) fn load_words(file: &[u8], table: Table, words: &mut [u32; 512])
     let start = table.start;
     let bytes = tail(file, start);
     let count = least(table.count, 512);
-    let whole = count as usize * 4 <= bytes.len();
+    let end = offset_of_word(WordAddress(count));
+    let whole = end.0 <= bytes.len() as u64;
     for p in 0..count {
         let i = p as usize;
         words[i] = word_at(bytes, whole, p);
@@ -115,7 +117,7 @@ fn has_bad_register(control: Control) -> bool
     }
 }
 
-// The fault of one word, in a library of so many descriptors. Words of control flow, all but LOOP, have none.
+// The fault of one word, in a library of so many descriptors. A word that takes any fields is passed by its opcode alone, which is quicker.
 fn word_fault(word: u32, descriptors: u32, place: u32) -> Fault
     ensures { λ r. ⌜ r ≡ wordFault descriptors word place ⌝ }
 {

@@ -1,5 +1,5 @@
 -- `verdict::judge` meets its contract. Assumes nothing.
-use mathlib.Core.Path.{_≡_, sym, _∙_}
+use mathlib.Core.Path.{sym, _∙_}
 use native.Mathlib.Omega.{arith}
 use borrow.Author.Needs.{needs}
 use Rattle.verifier.proofs.Answers.{refused-by-library, words-fit, loaded, refused-by-words, judged-executables, few-executables}
