@@ -47,12 +47,15 @@ pub fn all() -> Vec<Input> {
         ("calls over jumps to the last word", calls_over(jumps_far())),
         ("257 calls of nested IFs", nested_in_calls()),
         ("257 calls of an IF without tests", plain_in_calls()),
+        ("257 calls of 127 IFs without tests", small_ifs_in_calls()),
         ("calls of calls", calls_in_calls()),
+        ("calls of calls, 3,000 constants", calls_and_constants()),
         ("511 jumps to the last word", only_jumps()),
     ];
     let tables = [
         ("3,200 constants", vectors(3_200)),
         ("2,000 labels", labels(2_000)),
+        ("64,000 letters without an end", letters(64_000)),
     ];
     let alone = programs
         .iter()
@@ -180,6 +183,17 @@ fn plain_in_calls() -> Content {
     main_only(words)
 }
 
+/// 257 calls of one region of 127 IFs over a NOP each: the most IFs that are not remembered.
+fn small_ifs_in_calls() -> Content {
+    let mut words = vec![aimed(CALL, 257, 255); 257];
+    for _ in 0..127 {
+        let dst = words.len() + 2;
+        words.extend([aimed(IFU, dst, 0), NOP]);
+    }
+    words.push(END);
+    main_only(words)
+}
+
 /// 257 calls of 34 calls of 220 calls of END: of 73,781 visits 72,758 meet a call that was made before, the most found by hand.
 fn calls_in_calls() -> Content {
     let mut words = vec![aimed(CALL, 257, 255); 257];
@@ -187,6 +201,14 @@ fn calls_in_calls() -> Content {
     words.extend([aimed(CALL, 511, 1); 220]);
     words.push(END);
     main_only(words)
+}
+
+/// The same with as many constants as fit: the file that takes longest.
+fn calls_and_constants() -> Content {
+    Content {
+        constants: vectors(3_000).constants,
+        ..calls_in_calls()
+    }
 }
 
 /// 511 jumps, not taken, each to the last word: a search for each.
@@ -224,6 +246,14 @@ fn labels(count: usize) -> Content {
     Content {
         labels,
         symbols,
+        ..main_only(vec![END])
+    }
+}
+
+/// A symbol table of one name that nothing ends: where names end is searched through all of it.
+fn letters(count: usize) -> Content {
+    Content {
+        symbols: vec![b'a'; count],
         ..main_only(vec![END])
     }
 }

@@ -73,7 +73,7 @@ abbrev pub isUnused : DescriptorId → Bool
 isUnused (Id n) = false
 isUnused Unused = true
 
--- nothing that 9 to 12 ask for: such a word is good whatever its fields hold
+-- nothing that 9 to 12 ask for: such a word passes them whatever its fields hold
 unfoldable pub takesAnyFields : ℕ → Bool
 takesAnyFields w = isFree (controlOf w) && isUnused (descriptorOf w)
 

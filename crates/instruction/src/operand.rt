@@ -44,7 +44,7 @@ pub fn compare_operators_of(word: u32) -> CompareOperators
     }
 }
 
-// Whether every library may have the word, whatever its fields hold: the opcodes 20h to 2Dh (control flow, output, NOP) but LOOP, whose register has a limit.
+// Whether none of 9 to 12 can refuse the word, whatever its fields hold: the opcodes 20h to 2Dh (control flow, output, NOP) but LOOP, whose register has a limit.
 pub fn takes_any_fields(word: u32) -> bool
     ensures { λ r. ⌜ r ≡ takesAnyFields word ⌝ }
 {

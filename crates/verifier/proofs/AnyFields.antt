@@ -5,7 +5,7 @@ use Prim.Native.Nat.{ℕ}
 use Rattle.answer.specs.declared.Fault.the-variants.{Nothing}
 use Rattle.flow.proofs.Tests.{false-not-true, both}
 use Rattle.instruction.specs.Control.{controlOf}
-use Rattle.instruction.specs.Operands.{descriptorOf, operatorsOf, isFree, isUnused, takesAnyFields}
+use Rattle.instruction.specs.Operands.{descriptorOf, isFree, isUnused, takesAnyFields}
 use Rattle.instruction.specs.declared.flow_control.Control.{Control}
 use Rattle.instruction.specs.declared.flow_control.Control.the-variants.{Unknown, Plain, Emit, End, Break, If, Loop, Call, Jump}
 use Rattle.instruction.specs.declared.operand.DescriptorId.{DescriptorId}
