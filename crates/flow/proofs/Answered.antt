@@ -1,24 +1,23 @@
 -- Demand 3 by the check's answer: what a total answered for some words says of every run of them, whatever their descriptors. Assumes nothing.
 use mathlib.Core.Path.{_≡_, refl, sym, ap, _∙_}
-use mathlib.Core.Bool.{Bool, true, false, not, _&&_, _||_}
+use mathlib.Core.Bool.{_||_}
 use mathlib.Core.List.{List, [], _∷_}
 use Prim.Native.Nat.{ℕ, zero, suc, _+_, _-_, _≤_, _<_}
 use native.Mathlib.Omega.{arith}
 use lib.Dec.{eqb, leb, ltb}
 use lib.ListN.{length}
 use borrow.Author.Tests.{ltb-true, leb-true}
-use Rattle.answer.specs.Answers.{Answer, given, refused}
-use Rattle.answer.specs.Faults.{faultIf, orElse}
+use Rattle.answer.specs.Answers.{Answer, given}
 use Rattle.answer.specs.declared.Fault.{Fault}
 use Rattle.answer.specs.declared.Fault.the-variants.{Nothing, At}
 use Rattle.instruction.specs.declared.flow_control.Control.{Control}
 use Rattle.instruction.specs.declared.flow_control.Control.the-variants.{Unknown, Plain, Emit, End, Break, If, Loop, Call, Jump}
 use Rattle.instruction.specs.declared.operand.DescriptorId.{DescriptorId}
 use Rattle.flow.specs.Flow.{codeOf, Measured, measuredBy, flowOf, entryFault, unlessRefused, flowAnswer}
-use Rattle.flow.specs.Own.{nextOf, ownFrom, ownWords, has}
+use Rattle.flow.specs.Own.{nextOf, ownFrom, ownWords}
 use Rattle.flow.specs.Rules.{Code, Rules, none-open, fullRules}
 use Rattle.flow.specs.Stepping.{Settings, start}
-use Rattle.flow.specs.Visits.{Visit, Tracer, isEnd, bad22, bad23, bad24, bad25, bad26, faultAt, visit, region, traceTo, spare, size, trace, mainTrace, firstFault, flowFault, total, distinct}
+use Rattle.flow.specs.Visits.{Visit, Tracer, bad24, bad26, faultAt, visit, region, traceTo, spare, size, trace, mainTrace, firstFault, flowFault, total}
 use Rattle.flow.specs.WholeRun.{GoodWord, Whole}
 use Rattle.flow.specs.declared.look.Opens.{Opens}
 use Rattle.flow.proofs.Tests.{not-bad, both, passed, last-passed}

@@ -1,10 +1,10 @@
 -- The depths to which own words and visits are followed are enough: both meet the equation of the rules, and nobody sees a depth from here on. Assumes nothing.
 use mathlib.Core.Path.{_≡_, refl, sym, ap, ap₂, _∙_}
-use mathlib.Core.Bool.{Bool, true, false, not, _&&_}
+use mathlib.Core.Bool.{true, false, _&&_}
 use mathlib.Core.List.{List, [], _∷_}
 use Prim.Native.Nat.{ℕ, zero, suc, _+_, _*_, _-_, _≤_, _<_}
 use native.Mathlib.Omega.{arith}
-use lib.Dec.{leb, ltb, eqb}
+use lib.Dec.{leb, ltb}
 use borrow.Author.Tests.{leb-true, leb-false, ltb-true, le-ltb}
 use Rattle.answer.specs.declared.Fault.{Fault}
 use Rattle.answer.specs.declared.Fault.the-variants.{Nothing, At}
@@ -15,7 +15,7 @@ use Rattle.instruction.specs.declared.flow_control.Control.the-variants.{Unknow
 use Rattle.flow.specs.Own.{nextOf, spans, ownFrom, ownWords}
 use Rattle.flow.specs.Rules.{Code, Rules, inIf, inLoop, inCall, pick}
 use Rattle.flow.specs.declared.look.Opens.{Opens}
-use Rattle.flow.specs.Visits.{bad22, bad23, bad24, bad25, bad26, Trace, nothing, andThen, unlessFault, visiting, Tracer, parts, faultAt, visit, region, traceTo, spare, size, trace}
+use Rattle.flow.specs.Visits.{bad22, bad23, bad24, bad25, bad26, Trace, andThen, unlessFault, visiting, Tracer, parts, faultAt, visit, region, traceTo, spare, size, trace}
 use Rattle.flow.proofs.Tests.{not-bad, both, passed, last-passed, pick-cong}
 
 -- where an IF or LOOP has good bounds, the next own word is further on, and in the region

@@ -1,8 +1,8 @@
 -- What holds of each visit of a region, told of its word and of the parts that the word asks for. Assumes nothing.
-use mathlib.Core.Path.{_≡_, refl, sym, ap, _∙_}
+use mathlib.Core.Path.{_≡_, refl, sym, _∙_}
 use mathlib.Core.Bool.{Bool, true, false}
 use mathlib.Core.List.{List, [], _∷_, _++_}
-use Prim.Native.Nat.{ℕ, suc, _+_, _*_, _≤_, _<_}
+use Prim.Native.Nat.{ℕ, _+_, _*_, _≤_, _<_}
 use native.Mathlib.Omega.{arith}
 use borrow.Author.Tests.{lt-ltb}
 use Rattle.answer.specs.declared.Fault.{Fault}
@@ -12,7 +12,7 @@ use Rattle.instruction.specs.declared.flow_control.Control.the-variants.{Unknow
 use Rattle.flow.specs.Inside.{unless, partsOf, lookOf, scanOf, afterPart}
 use Rattle.flow.specs.Own.{nextOf}
 use Rattle.flow.specs.Rules.{Code, Rules, inIf, inLoop, inCall}
-use Rattle.flow.specs.Visits.{Visit, Trace, follow, andThen, unlessFault, visiting, parts, faultAt, visit, region, size, trace, firstFault, total}
+use Rattle.flow.specs.Visits.{Visit, Trace, follow, andThen, unlessFault, parts, faultAt, visit, region, trace, firstFault, total}
 use Rattle.flow.specs.declared.look.Look.{Look}
 use Rattle.flow.specs.declared.look.Look.the-variants.{Refuse, Next, One, Two}
 use Rattle.flow.specs.declared.look.Opens.{Opens}

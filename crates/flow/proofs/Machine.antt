@@ -1,22 +1,20 @@
 -- The machine keeps to what the derivation says: the whole run. Assumes nothing.
-use mathlib.Core.Path.{_≡_, refl, sym, ap}
+use mathlib.Core.Path.{_≡_, refl}
 use mathlib.Core.Logic.{_≢_}
 use mathlib.Core.Bool.{Bool, true, false, _&&_}
 use mathlib.Core.List.{List, [], _∷_}
 use Prim.Native.Nat.{ℕ, zero, suc, _+_, _*_, _-_, _≤_, _<_}
 use native.Mathlib.Nat.{mul-le-mul-right}
 use native.Mathlib.Omega.{arith}
-use lib.Dec.{leb, ltb, eqb}
-use lib.ListN.{length}
+use lib.Dec.{eqb}
 use borrow.Author.Tests.{eqb-true, eqb-false, lt-ltb, le-leb}
 use Rattle.binary.specs.declared.WordAddress.{WordAddress}
-use Rattle.instruction.specs.declared.flow_control.Condition.{Condition}
 use Rattle.instruction.specs.declared.flow_control.Control.{Control}
-use Rattle.instruction.specs.declared.flow_control.Control.the-variants.{Unknown, Plain, Emit, End, Break, If, Loop, Call, Jump}
+use Rattle.instruction.specs.declared.flow_control.Control.the-variants.{Loop}
 use Rattle.flow.specs.Own.{nextOf, ownWords, has}
 use Rattle.flow.specs.Rules.{Code, Rules, none-open, inIf, inLoop, inCall, pick}
 use Rattle.flow.specs.declared.look.Opens.{Opens}
-use Rattle.flow.specs.Stepping.{Settings, Open, main, part, body, called, State, state, Next, ends, stuck, goes, arrive, break, holds, reads, on, execute, someOpen, step, start, Run, done, failed, unfinished, after, onward, run}
+use Rattle.flow.specs.Stepping.{Settings, Open, main, part, body, called, State, state, Next, ends, goes, arrive, break, holds, reads, on, execute, someOpen, step, start, done, run}
 use Rattle.flow.specs.Visits.{isEnd, mainTrace, weighted}
 use Rattle.flow.specs.WholeRun.{GoodWord, openCalls, openIfs, openLoops, Good, All, nil, each, measured}
 use Rattle.flow.proofs.Region.{Region, shut, stop, word, Parts, plainP, emitP, endP, breakP, ifP, loopP, callP, jumpP, at-own, main-sound}

@@ -19,7 +19,7 @@ use Rattle.binary.specs.declared.WordAddress.{WordAddress}
 use Rattle.instruction.specs.declared.flow_control.Control.{Control}
 use Rattle.instruction.specs.declared.flow_control.Control.the-variants.{Unknown, Plain, Emit, End, Break, If, Loop, Call, Jump}
 use Rattle.flow.specs.Flow.{codeOf, measuredBy, flowOf}
-use Rattle.flow.specs.Inside.{Scanned, scanned, stopOr, replay, countTo}
+use Rattle.flow.specs.Inside.{scanned, stopOr, replay, countTo}
 use Rattle.flow.specs.Rules.{Code, Rules, none-open, inIf, inLoop, inCall, pick}
 use Rattle.flow.specs.Own.{nextOf, ownWords, has}
 use Rattle.flow.specs.Visits.{Visit, Trace, nothing, andThen, unlessFault, Tracer, parts, visit, region, traceTo, size, trace, mainTrace, bad22, bad23, bad24, bad25, bad26, faultAt, firstFault, flowFault, isEnd, total, visited, distinct}

@@ -1,7 +1,7 @@
 -- Own words one after another: what the search for a word among them uses. Assumes nothing.
-use mathlib.Core.Path.{_≡_, refl, sym, ap, _∙_}
-use mathlib.Core.Bool.{Bool, true, false, _||_}
-use mathlib.Core.List.{List, [], _∷_}
+use mathlib.Core.Path.{_≡_, refl}
+use mathlib.Core.Bool.{Bool, true, false}
+use mathlib.Core.List.{[], _∷_}
 use Prim.Native.Nat.{ℕ, zero, suc, _+_, _-_, _<_, _≤_}
 use native.Mathlib.Omega.{arith}
 use lib.Dec.{ltb, eqb}
@@ -12,7 +12,6 @@ use Rattle.instruction.specs.declared.flow_control.Control.the-variants.{Unknow
 use Rattle.flow.specs.Inside.{afterOf}
 use Rattle.flow.specs.Own.{nextOf, spans, ownFrom, ownWords, has}
 use Rattle.flow.specs.Rules.{Code, pick}
-use Rattle.flow.specs.declared.own.After.{After}
 use Rattle.flow.specs.declared.own.After.the-variants.{At, Stop}
 use Rattle.flow.proofs.Depth.{spans-in, own-eq}
 use Rattle.flow.proofs.Tests.{true-not-false}

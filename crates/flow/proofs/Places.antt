@@ -1,10 +1,10 @@
 -- Where a refusal of the flow check is: at a word of the program. Where 7, 15 and 16 do not apply, the entry's answer is the check's. Assumes nothing.
 use mathlib.Core.Path.{_≡_, refl}
-use mathlib.Core.Bool.{Bool, true, false, not, _&&_, _||_}
-use mathlib.Core.List.{List, [], _∷_}
+use mathlib.Core.Bool.{Bool, true, false, not, _&&_}
+use mathlib.Core.List.{List}
 use Prim.Native.Nat.{ℕ, _+_, _-_, _≤_, _<_}
 use native.Mathlib.Omega.{arith}
-use lib.Dec.{eqb, leb, ltb}
+use lib.Dec.{eqb, ltb}
 use lib.ListN.{length}
 use borrow.Author.Tests.{lt-ltb, le-ltb, le-leb, ne-eqb}
 use Rattle.answer.specs.Answers.{refused}
@@ -15,7 +15,7 @@ use Rattle.flow.specs.Flow.{codeOf, measuredBy, flowOf, flowAnswer}
 use Rattle.flow.specs.Own.{ownWords, has}
 use Rattle.flow.specs.Rules.{Code, Rules, fullRules}
 use Rattle.flow.specs.Visits.{Visit, isEnd, faultAt, mainTrace, firstFault, flowFault}
-use Rattle.flow.proofs.Marks.{fault-place, last-here, main-in}
+use Rattle.flow.proofs.Marks.{fault-place, main-in}
 use Rattle.flow.proofs.Weights.{Each, none, one}
 
 no-fault : {A : Type 0} {k q : ℕ} → Nothing ≡ At k q → A

@@ -1,6 +1,6 @@
 -- Visits replayed one after another are what scanning a region does: by the parts of each word. Assumes nothing.
 use mathlib.Core.Path.{_≡_, refl, sym, ap, _∙_}
-use mathlib.Core.Bool.{Bool, true, false, not, _||_}
+use mathlib.Core.Bool.{Bool, true, false, _||_}
 use mathlib.Core.List.{List, [], _∷_, _++_}
 use Prim.Native.Nat.{ℕ, suc, _+_, _-_, _≤_, _<_}
 use native.Mathlib.Omega.{arith}
@@ -16,7 +16,7 @@ use Rattle.instruction.specs.declared.flow_control.Control.the-variants.{Unknow
 use Rattle.flow.specs.Inside.{unless, partOf, partsOf, lookOf, Scanned, scanned, stopOr, replay, scanOf, replayThen, afterPart, scanBoth}
 use Rattle.flow.specs.Own.{nextOf}
 use Rattle.flow.specs.Rules.{Code, Rules, inIf, pick}
-use Rattle.flow.specs.Visits.{Visit, Trace, nothing, follow, andThen, unlessFault, parts, faultAt, visit, region, size, trace}
+use Rattle.flow.specs.Visits.{Visit, Trace, follow, andThen, unlessFault, parts, faultAt, visit, region, size, trace}
 use Rattle.flow.specs.declared.look.Look.{Look}
 use Rattle.flow.specs.declared.look.Look.the-variants.{Refuse, Next, One, Two}
 use Rattle.flow.specs.declared.look.Opens.{Opens}

@@ -12,7 +12,7 @@ use Rattle.instruction.specs.Words.{decodeOf}
 use Rattle.flow.specs.Flow.{codeOf, Measured, flowOf}
 use Rattle.flow.specs.Own.{ownFrom, ownWords}
 use Rattle.flow.specs.Rules.{fullRules}
-use Rattle.flow.specs.Stepping.{Settings, main, State, start, Run, done, failed, unfinished, arrive, break, execute, step, run}
+use Rattle.flow.specs.Stepping.{Settings, main, start, Run, done, failed, unfinished, arrive, break, execute, step, run}
 use Rattle.flow.specs.Visits.{faultAt, parts, visit, region, traceTo, spare, size, trace, mainTrace, flowFault}
 
 -- whether EMIT is allowed, the words, main, endmain, and the answer

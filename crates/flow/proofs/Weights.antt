@@ -1,5 +1,5 @@
 -- 'Each visit adds 256 to the power of the open LOOPs to the total', where every LOOP counts the same number of turns. Assumes nothing.
-use mathlib.Core.Path.{_≡_, refl, sym, ap, _∙_}
+use mathlib.Core.Path.{_≡_, ap, _∙_}
 use mathlib.Core.Bool.{Bool, true, false}
 use mathlib.Core.List.{List, [], _∷_, _++_}
 use Prim.Native.Nat.{ℕ, zero, suc, _+_, _*_, _^_}
@@ -13,7 +13,7 @@ use Rattle.instruction.specs.declared.flow_control.Control.the-variants.{Unknow
 use Rattle.flow.specs.Own.{nextOf}
 use Rattle.flow.specs.Rules.{Code, Rules, none-open, inIf, inLoop, inCall, pick}
 use Rattle.flow.specs.declared.look.Opens.{Opens}
-use Rattle.flow.specs.Visits.{Visit, Trace, nothing, follow, andThen, unlessFault, visiting, Tracer, parts, faultAt, visit, region, traceTo, trace, mainTrace}
+use Rattle.flow.specs.Visits.{Visit, Trace, nothing, follow, andThen, unlessFault, Tracer, parts, faultAt, visit, region, traceTo, trace, mainTrace}
 
 pub data Each (P : Visit → Type 0) : List Visit → Type 0 where
   none : Each P []

@@ -1,14 +1,14 @@
 -- Demand 3, over any rules: if the words pass 9, 11 and 12 and the flow check meets no fault, the whole run stays inside the tables and the limits and ends within the total. Assumes nothing.
-use mathlib.Core.Path.{_≡_, refl, sym, ap, _∙_}
+use mathlib.Core.Path.{_≡_, refl}
 use mathlib.Core.List.{List, [], _∷_}
-use Prim.Native.Nat.{ℕ, _+_, _*_, _≤_, _<_}
+use Prim.Native.Nat.{ℕ, _≤_, _<_}
 use native.Mathlib.Omega.{arith}
 use lib.ListN.{length}
 use Rattle.answer.specs.declared.Fault.the-variants.{Nothing}
 use Rattle.flow.specs.Rules.{Code, Rules}
-use Rattle.flow.specs.Stepping.{Settings, State, start, run, done}
+use Rattle.flow.specs.Stepping.{Settings, State, start}
 use Rattle.flow.specs.Visits.{Visit, mainTrace, flowFault, total, weighted}
-use Rattle.flow.specs.WholeRun.{GoodWord, Good, Whole, measured}
+use Rattle.flow.specs.WholeRun.{GoodWord, Whole, measured}
 use Rattle.flow.proofs.Machine.{Spent, main-spent}
 use Rattle.flow.proofs.Stops.{clear}
 

@@ -1,15 +1,14 @@
 -- What is claimed of a whole run (demand 3): one finite list of fetches that ends with END, each inside the tables and the limits, and no more of them than a bound.
 -- Assumes nothing.
-use Prim.Native.Nat.{ℕ, _+_, _*_, _≤_, _<_}
+use Prim.Native.Nat.{ℕ, _+_, _≤_, _<_}
 use mathlib.Core.Path.{_≡_}
 use mathlib.Core.List.{List, [], _∷_}
 use lib.ListN.{length}
-use Rattle.instruction.specs.declared.flow_control.Control.{Control}
 use Rattle.instruction.specs.declared.flow_control.Control.the-variants.{Unknown, Loop}
 use Rattle.binary.specs.declared.WordAddress.{WordAddress}
 use Rattle.instruction.specs.declared.operand.DescriptorId.the-variants.{Id}
-use Rattle.flow.specs.Rules.{Code, Rules}
-use Rattle.flow.specs.Stepping.{Open, main, part, body, called, Settings, State, start, Run, done, run}
+use Rattle.flow.specs.Rules.{Code}
+use Rattle.flow.specs.Stepping.{Open, main, part, body, called, Settings, State, done, run}
 
 -- a word that passes 9, 11 and 12: known, its descriptor in the table, a LOOP's register at most 3
 pub record GoodWord (C : Code) (p : ℕ) : Type 0 where

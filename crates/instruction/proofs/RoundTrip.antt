@@ -1,7 +1,6 @@
 -- Decoding and encoding undo one another, over all words and all fields. Assumes nothing.
 use mathlib.Core.Path.{_≡_, refl, sym, ap, subst, _∙_}
 use mathlib.Core.Bool.{Bool, true, false, not, _&&_, _||_}
-use mathlib.Core.List.{List, [], _∷_}
 use Prim.Native.Nat.{ℕ, _+_, _/_, _^_, _<_}
 use native.Mathlib.Omega.{arith}
 use lib.Dec.{T, eqb, ltb, lt→ltb, eqb-refl}
@@ -15,7 +14,7 @@ use Rattle.instruction.specs.declared.operation.Format.{Format}
 use Rattle.instruction.specs.declared.operation.Format.the-variants.{Unlisted, F0, F1, F1i, F1u, F1c, F2, F3, F4, F5, F5i}
 use Rattle.instruction.specs.declared.decoding.Fields.{Fields}
 use Rattle.instruction.specs.declared.decoding.Fields.the-variants.{Format0, Format1, Format1i, Format1u, Format1c, Format2, Format3, Format4, Format5, Format5i}
-use Rattle.instruction.specs.Words.{format0, format1, format1i, format1u, format1c, format2, format3, format4, format5, format5i, decodeAs, decodeOf, layout, formatFor, numberOf, partsOf, orRefused, codeOf, encodeOf}
+use Rattle.instruction.specs.Words.{format0, format1, format1i, format1u, format1c, format2, format3, format4, format5, format5i, decodeAs, decodeOf, layout, formatFor, numberOf, partsOf, orRefused, encodeOf}
 use Rattle.instruction.proofs.Formats.{same-tag, entry-past}
 
 T-true : (b : Bool) → T b → b ≡ true

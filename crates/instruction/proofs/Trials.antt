@@ -1,8 +1,7 @@
 -- Words that document 01 prints, and one of each kind that it describes, through the definitions. Assumes nothing.
 use mathlib.Core.Path.{_≡_, refl}
 use mathlib.Core.Bool.{true, false}
-use mathlib.Core.List.{List, [], _∷_, map}
-use Prim.Native.Nat.{ℕ}
+use mathlib.Core.List.{[], _∷_, map}
 use Rattle.binary.specs.Addresses.{wordAddress}
 use Rattle.answer.specs.Answers.{given, refused}
 use Rattle.instruction.specs.Control.{controlOf}

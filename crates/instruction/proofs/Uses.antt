@@ -4,7 +4,7 @@ use mathlib.Core.Bool.{Bool, true, false}
 use Prim.Native.Nat.{ℕ, _<_}
 use native.Mathlib.Omega.{arith}
 use lib.Dec.{T, eqb}
-use Rattle.answer.specs.Answers.{Answer, given, refused}
+use Rattle.answer.specs.Answers.{given, refused}
 use Rattle.bits.specs.Fields.{field}
 use Rattle.bits.proofs.Laws.{field-lt}
 use Rattle.instruction.specs.Control.{when, controlIn, control, controlOf}

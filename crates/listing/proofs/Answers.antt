@@ -1,28 +1,25 @@
 -- What the whole check says of a library that is listed, and the answers of the two calls. Assumes nothing.
-use mathlib.Core.Path.{_≡_, refl, sym, ap, _∙_}
+use mathlib.Core.Path.{_≡_, ap, _∙_}
 use mathlib.Core.List.{List}
 use Prim.Native.Nat.{ℕ, _+_, _*_, _≤_, _<_}
 use native.Mathlib.Omega.{arith}
 use lib.ListN.{length, take, getD}
 use lib.Seq.{sets}
-use Rattle.answer.specs.Answers.{Answer, given, refused}
+use Rattle.answer.specs.Answers.{given, refused}
 use Rattle.container.specs.Program.{countOf, programOf}
 use Rattle.container.specs.declared.placement.Table.{Table}
-use Rattle.listing.specs.Listing.{descriptorAt, descriptorsOf, recordsOf, lineAt, summaryAt, room, writes, listIn, linesIn, listAnswer, listedBytes, summaryIn, summariesIn, summaryAnswer, summaryBytes}
+use Rattle.listing.specs.Listing.{descriptorAt, descriptorsOf, recordsOf, lineAt, summaryAt, listAnswer, listedBytes, summaryAnswer, summaryBytes}
 use Rattle.listing.proofs.Laws.{too-short, enough}
 use Rattle.text.proofs.Fits.{record-length, line-fits, report-fits}
 use Rattle.text.specs.Records.{recordOf, lineText, reportText}
 use Rattle.verifier.proofs.Clean.{accepted}
 use Rattle.verifier.proofs.Taken.{Taken, refused-check}
 use Rattle.verifier.proofs.Lists.{length-list, take-filled, filled-at}
-use Rattle.verifier.specs.Clean.{Clean}
 use Rattle.verifier.specs.Executables.{noReport, reportOf}
 use Rattle.verifier.specs.Lists.{filled}
-use Rattle.verifier.specs.Promise.{AcceptsClean}
-use Rattle.verifier.specs.Verdict.{libraryOf, wholeFault, checkOf, judgeOf, checkedAs, judgedAs}
-use Rattle.verifier.specs.Words.{wordAt}
+use Rattle.verifier.specs.Verdict.{checkOf, judgeOf, checkedAs, judgedAs}
 use Rattle.verifier.specs.declared.verdict.Checked.{Checked}
-use Rattle.verifier.specs.declared.verdict.Checked.the-variants.{Accepted, Refused}
+use Rattle.verifier.specs.declared.verdict.Checked.the-variants.{Refused}
 use Rattle.verifier.specs.declared.verdict.Judged.{Judged}
 use Rattle.verifier.specs.declared.verdict.Library.{Library}
 use Rattle.verifier.specs.declared.verdict.Report.{Report}

@@ -2,19 +2,16 @@
 use mathlib.Core.Path.{_≡_, refl, sym, ap, subst, _∙_}
 use mathlib.Core.Bool.{Bool, true, false, _||_, cond, not}
 use mathlib.Core.List.{List}
-use Prim.Native.Nat.{ℕ, _+_, _*_, _/_, _^_, _≤_, _<_}
+use Prim.Native.Nat.{ℕ, _+_, _/_, _^_, _≤_, _<_}
 use native.Mathlib.Omega.{arith}
 use lib.Dec.{T, ltb}
-use lib.Ieee.{binary32, ofBits, isNan}
+use lib.Ieee.{binary32, isNan}
 use lib.Ieee.Bits.{nanBits-is}
 use lib.ListN.{length, take, drop}
 use lib.Seq.{sets-eq, take-at}
 use borrow.Author.Tests.{ltb-false}
 use Rattle.answer.specs.Answers.{Answer, given, refused, mapAnswer, orMissing, orShort}
-use Rattle.answer.specs.declared.Fault.{Fault}
-use Rattle.answer.specs.declared.Fault.the-variants.{Nothing, At}
 use Rattle.container.specs.Executable.{executableOf}
-use Rattle.container.specs.Program.{programOf}
 use Rattle.tables.proofs.Laws.{no-nan, vector-floats}
 use Rattle.tables.specs.Constants.{entryOf, f32Of, convertOf}
 use Rattle.tables.specs.Float24.{f32Bits}
@@ -24,10 +21,9 @@ use Rattle.tables.specs.declared.constants.Converted.{Converted}
 use Rattle.tables.specs.declared.constants.Converted.the-variants as converted
 use Rattle.tables.specs.declared.constants.FloatVector.{FloatVector}
 use Rattle.verifier.proofs.Numbers.{refusal-number}
-use Rattle.verifier.specs.Clean.{Clean}
 use Rattle.verifier.specs.Executables.{entryAt, reportOf}
-use Rattle.verifier.specs.Promise.{AcceptsClean, Promised, Promises}
-use Rattle.verifier.specs.Verdict.{libraryOf, wholeFault, answerBy, checkOf, reportIn, reportAnswer, checkedAs, reportedAs}
+use Rattle.verifier.specs.Promise.{AcceptsClean, Promises}
+use Rattle.verifier.specs.Verdict.{checkOf, reportIn, reportAnswer, checkedAs, reportedAs}
 use Rattle.verifier.specs.declared.verdict.Checked.{Checked}
 use Rattle.verifier.specs.declared.verdict.Checked.the-variants as checked
 use Rattle.verifier.specs.declared.verdict.Library.{Library}
@@ -41,7 +37,7 @@ use Rattle.walk.specs.declared.constants.Handed.the-variants as handed
 use Rattle.walk.specs.declared.walking.Walked.{Walked}
 use Rattle.walk.specs.declared.walking.Walked.the-variants as walked
 use Rattle.pica.specs.Libraries.{acceptance, ExactlyClean, reportNumbers, reportReply, KeepsToTotal}
-use Rattle.pica.specs.Replies.{upperOf, lowerOf, Answered, Reply, reply, valueOf, fitted, bufferAfter}
+use Rattle.pica.specs.Replies.{upperOf, Answered, Reply, reply, valueOf, fitted, bufferAfter}
 use Rattle.pica.specs.Executables.{NoNans, constantNumbers, constantReply, HandsNo18, WalksWhole}
 
 apart : {A : Type 0} → _≡_ {A = ℕ} 0 1 → A

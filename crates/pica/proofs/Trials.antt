@@ -1,8 +1,7 @@
 -- The numbers that the calls for C answer, computed: a word of each format with its fields told apart, the edges of encoding, a report, each kind of constant. Assumes nothing.
 use mathlib.Core.Path.{_≡_, refl}
 use mathlib.Core.Bool.{true, false}
-use mathlib.Core.List.{List, [], _∷_, map}
-use Prim.Native.Nat.{ℕ}
+use mathlib.Core.List.{[], _∷_, map}
 use lib.Ieee.{binary32, ofBits, toBits, ofFields, odd}
 use lib.ListN.{length}
 use Rattle.answer.specs.Answers.{given, refused}

@@ -2,11 +2,11 @@
 use mathlib.Core.Path.{_≡_, refl}
 use mathlib.Core.Bool.{Bool, true, false, _&&_, _||_, cond}
 use mathlib.Core.List.{List, [], _∷_, _++_}
-use Prim.Native.Nat.{ℕ, _+_, _-_, _/_, _%_, _≤_, _<_}
+use Prim.Native.Nat.{ℕ, _+_, _-_, _%_, _≤_}
 use Prim.Native.Char.{code}
 use native.Mathlib.Omega.{arith}
 use lib.Dec.{eqb, leb, ltb}
-use lib.ListN.{length, getD, length-append, length-replicate, replicate}
+use lib.ListN.{length, length-append, length-replicate, replicate}
 use borrow.Author.Tests.{leb-true}
 use Rattle.answer.specs.Answers.{Answer, given, refused}
 use Rattle.flow.proofs.Tests.{both}
@@ -18,7 +18,7 @@ use Rattle.instruction.specs.declared.decoding.Fields.the-variants.{Format0, Fo
 use Rattle.instruction.specs.declared.operand.Source.{Source}
 use Rattle.text.specs.Operands.{operatorText, targetText, conditionText, oneSource, twoSources, threeSources, compareText, ofFormat2, ofFormat3, ofFormat4, operandsIn}
 use Rattle.text.specs.Pieces.{bytes, padded, digits, decimal, lettered, labelled, nameIn, nameText}
-use Rattle.text.specs.Records.{recordOf, operationText, lineText, headText, countsText, reportText, refusedText}
+use Rattle.text.specs.Records.{recordOf, operationText, lineText, headText, countsText, reportText}
 use Rattle.text.specs.Registers.{registerText, signText, indexText, selectorsText, sourceText, writtenText, maskText, writtenRegister, destinationText}
 use Rattle.text.proofs.Putting.{length-digits}
 use Rattle.verifier.specs.declared.verdict.Report.{Report}

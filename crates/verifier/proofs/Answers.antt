@@ -1,11 +1,9 @@
 -- The verdict of a whole file from its parts, and what follows from it for the public calls. Assumes nothing.
 use mathlib.Core.Path.{_≡_, refl, sym, ap, _∙_}
-use mathlib.Core.Bool.{Bool, true, false, cond}
 use mathlib.Core.List.{List}
-use Prim.Native.Nat.{ℕ, _+_, _*_, _-_, _≤_, _<_}
+use Prim.Native.Nat.{ℕ, _+_, _-_, _≤_, _<_}
 use native.Mathlib.Omega.{arith}
-use lib.Dec.{ltb}
-use lib.ListN.{length, getD, take}
+use lib.ListN.{getD, take}
 use borrow.Author.Tests.{lt-ltb, le-ltb}
 use Rattle.answer.specs.Answers.{Answer, given, refused}
 use Rattle.answer.specs.Faults.{orElse, firstIn}
@@ -13,19 +11,17 @@ use Rattle.answer.specs.declared.Fault.{Fault}
 use Rattle.answer.specs.declared.Fault.the-variants.{Nothing, At}
 use Rattle.container.specs.Program.{countOf, programOf, libraryFault}
 use Rattle.container.specs.declared.programs.Program.{Program}
-use Rattle.verifier.specs.Clean.{Clean}
 use Rattle.verifier.specs.Executables.{oneExecutable, noReport, reportOf}
 use Rattle.verifier.specs.Inside.{refusedBy, judgedBy, Loaded}
 use Rattle.verifier.specs.Lists.{filled}
-use Rattle.verifier.specs.Promise.{AcceptsClean, Promised, Promises, PromisesAll}
-use Rattle.verifier.specs.Verdict.{fullLimits, libraryOf, wholeFault, answerBy, checkOf, reportsBy, judgeOf, reportIn, reportAnswer, checkedAs, judgedAs, reportedAs}
+use Rattle.verifier.specs.Promise.{AcceptsClean, Promises, PromisesAll}
+use Rattle.verifier.specs.Verdict.{fullLimits, libraryOf, wholeFault, answerBy, checkOf, reportsBy, judgeOf, reportAnswer, checkedAs, judgedAs}
 use Rattle.verifier.specs.Words.{wordsOf, loadedWords, wordsFault}
 use Rattle.verifier.specs.declared.verdict.Checked.{Checked}
 use Rattle.verifier.specs.declared.verdict.Checked.the-variants as checked
 use Rattle.verifier.specs.declared.verdict.Judged.{Judged}
 use Rattle.verifier.specs.declared.verdict.Library.{Library}
 use Rattle.verifier.specs.declared.verdict.Report.{Report}
-use Rattle.verifier.specs.declared.verdict.Reported.{Reported}
 use Rattle.verifier.specs.declared.verdict.Reported.the-variants as reported
 use Rattle.verifier.proofs.Clean.{clean, accepted}
 use Rattle.verifier.proofs.Lists.{loaded-words, filled-at}

@@ -1,14 +1,13 @@
 -- A file has no fault exactly if it is clean: each test of the check says what its line of `Clean` says. Assumes nothing.
 use mathlib.Core.Path.{_≡_, refl, sym, ap, _∙_}
-use mathlib.Core.Bool.{Bool, true, false, not, _&&_, _||_}
+use mathlib.Core.Bool.{true, false, _&&_}
 use mathlib.Core.List.{List, [], _∷_}
-use Prim.Native.Nat.{ℕ, zero, suc, _+_, _*_, _-_, _≤_, _<_}
+use Prim.Native.Nat.{ℕ, _+_, _-_, _≤_, _<_}
 use native.Mathlib.Omega.{arith}
 use lib.Dec.{leb, ltb}
 use lib.ListN.{length, getD}
 use borrow.Author.Tests.{ltb-false, le-ltb, leb-true, le-leb, leb-false, lt-leb}
-use Rattle.answer.specs.Answers.{Answer, given, refused}
-use Rattle.answer.specs.Faults.{faultIf, orElse, firstIn}
+use Rattle.answer.specs.Faults.{firstIn}
 use Rattle.answer.specs.declared.Fault.{Fault}
 use Rattle.answer.specs.declared.Fault.the-variants.{Nothing, At}
 use Rattle.answer.proofs.Laws.{or-none, none-at, none-first}
@@ -19,11 +18,11 @@ use Rattle.container.specs.declared.executables.Executable.{Executable}
 use Rattle.container.specs.declared.placement.Table.{Table}
 use Rattle.container.specs.declared.programs.Program.{Program}
 use Rattle.flow.proofs.Stops.{first-total}
-use Rattle.flow.proofs.Tests.{true-not-false, false-not-true, not-bad, both, neither, passed, last-passed}
-use Rattle.flow.specs.Flow.{codeOf, Measured, measuredBy, flowOf}
+use Rattle.flow.proofs.Tests.{true-not-false, not-bad, both, neither, passed, last-passed}
+use Rattle.flow.specs.Flow.{codeOf, measuredBy, flowOf}
 use Rattle.flow.specs.Own.{ownWords, has}
 use Rattle.flow.specs.Rules.{Code, Rules}
-use Rattle.flow.specs.Visits.{Visit, bad22, bad23, bad24, bad25, bad26, isEnd, faultAt, mainTrace, firstFault, flowFault, total}
+use Rattle.flow.specs.Visits.{Visit, bad22, bad23, bad24, bad25, bad26, isEnd, faultAt, firstFault, flowFault, total}
 use Rattle.instruction.specs.Control.{controlOf}
 use Rattle.instruction.specs.Operands.{descriptorOf, operatorsOf}
 use Rattle.instruction.specs.declared.flow_control.Control.{Control}
@@ -34,14 +33,14 @@ use Rattle.instruction.specs.declared.operand.DescriptorId.{DescriptorId}
 use Rattle.instruction.specs.declared.operand.DescriptorId.the-variants.{Id, Unused}
 use Rattle.tables.proofs.Laws.{label-name, uniform-name}
 use Rattle.tables.specs.Constants.{entryOf, isBad, convertOf, constantFault}
-use Rattle.tables.specs.Entries.{goodLabel, labelAddress, labelName, labelFault, goodOutput, outputFault, goodUniform, inOneKind, uniformName, uniformStart, uniformEnd, uniformFault}
+use Rattle.tables.specs.Entries.{labelAddress, labelName, labelFault, goodOutput, outputFault, inOneKind, uniformName, uniformStart, uniformEnd, uniformFault}
 use Rattle.tables.specs.Names.{goodName, namesEnd}
-use Rattle.verifier.specs.Clean.{Every, GoodLabel, GoodUniform, CleanLibrary, CleanWord, codeIn, visitsIn, CleanExecutable, Clean}
-use Rattle.verifier.specs.Executables.{placeOf, entryAt, symbolsOf, constantAt, labelAt, outputAt, uniformAt, rulesFor, flowIn, flowAt, oneExecutable}
+use Rattle.verifier.specs.Clean.{Every, GoodLabel, GoodUniform, CleanWord, codeIn, visitsIn, CleanExecutable, Clean}
+use Rattle.verifier.specs.Executables.{placeOf, symbolsOf, constantAt, labelAt, outputAt, uniformAt, rulesFor, flowIn, flowAt, oneExecutable}
 use Rattle.verifier.specs.Verdict.{fullLimits, wholeFault}
 use Rattle.verifier.specs.Words.{wordAt, wordsOf, isUnknown, badOperators, undescribed, badRegister, wordFault, wordsFault}
 use Rattle.verifier.proofs.Lists.{length-list, list-at}
-use Rattle.verifier.proofs.Placing.{clean-library, library-passes, Headed, headed, head-passes}
+use Rattle.verifier.proofs.Placing.{clean-library, library-passes, headed, head-passes}
 
 -- ---- 9 to 12
 

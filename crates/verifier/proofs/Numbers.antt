@@ -1,23 +1,20 @@
 -- A refusal of the check has one of the numbers 1 to 28. Assumes nothing.
-use mathlib.Core.Path.{_≡_, refl, sym, ap, _∙_}
-use mathlib.Core.Bool.{Bool, true, false, not, _&&_, _||_}
+use mathlib.Core.Path.{_≡_, refl}
+use mathlib.Core.Bool.{true}
 use mathlib.Core.List.{List, [], _∷_}
 use Prim.Native.Nat.{ℕ, _+_, _-_, _≤_}
 use native.Mathlib.Omega.{arith}
-use lib.Dec.{eqb, leb, ltb}
 use lib.ListN.{length, getD}
-use Rattle.answer.specs.Answers.{Answer, given, refused}
-use Rattle.answer.specs.Faults.{faultIf, orElse, firstIn}
+use Rattle.answer.specs.Answers.{refused}
 use Rattle.answer.specs.declared.Fault.{Fault}
 use Rattle.answer.specs.declared.Fault.the-variants.{Nothing, At}
 use Rattle.answer.proofs.Numbers.{numbered, of-tests, of-test, either-way, first-numbered, number-range}
 use Rattle.container.specs.Executable.{executableOf, executableFault}
 use Rattle.container.specs.Program.{countOf, programOf, headerFault, programFault, libraryFault}
-use Rattle.container.specs.declared.executables.Executable.{Executable}
 use Rattle.container.specs.declared.placement.Table.{Table}
 use Rattle.container.specs.declared.programs.Limits.{Limits}
 use Rattle.container.specs.declared.programs.Program.{Program}
-use Rattle.flow.specs.Flow.{Measured, codeOf, measuredBy, flowOf}
+use Rattle.flow.specs.Flow.{codeOf, measuredBy, flowOf}
 use Rattle.flow.specs.Rules.{Code, Rules}
 use Rattle.flow.specs.Visits.{Visit, faultAt, firstFault, mainTrace, flowFault}
 use Rattle.tables.specs.Constants.{constantFault}

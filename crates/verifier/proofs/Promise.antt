@@ -1,10 +1,10 @@
 -- Demand 3 of every report: a library without a fault has words that pass 9, 11 and 12, and mains that pass the flow check. Assumes nothing.
-use mathlib.Core.Path.{_≡_, refl, sym, ap, _∙_}
+use mathlib.Core.Path.{_≡_, ap}
 use mathlib.Core.List.{List}
-use Prim.Native.Nat.{ℕ, _+_, _≤_, _<_}
+use Prim.Native.Nat.{ℕ, _+_, _<_}
 use native.Mathlib.Omega.{arith}
 use lib.ListN.{length, getD}
-use Rattle.answer.specs.Answers.{Answer, given}
+use Rattle.answer.specs.Answers.{given}
 use Rattle.answer.specs.declared.Fault.the-variants.{Nothing}
 use Rattle.container.specs.Executable.{executableOf}
 use Rattle.container.specs.Program.{countOf, programOf}
@@ -12,7 +12,6 @@ use Rattle.container.specs.declared.executables.Executable.{Executable}
 use Rattle.container.specs.declared.programs.Program.{Program}
 use Rattle.flow.proofs.Answered.{answered-run}
 use Rattle.flow.specs.Flow.{Measured, flowOf}
-use Rattle.flow.specs.Stepping.{Settings}
 use Rattle.flow.specs.Visits.{total, distinct}
 use Rattle.flow.specs.WholeRun.{GoodWord}
 use Rattle.verifier.specs.Clean.{codeIn, visitsIn, CleanWord}
@@ -20,8 +19,7 @@ use Rattle.verifier.specs.Executables.{placeOf, rulesFor, flowIn, report
 use Rattle.verifier.specs.Promise.{Promised}
 use Rattle.verifier.specs.Verdict.{wholeFault}
 use Rattle.verifier.specs.Words.{wordAt, wordsOf}
-use Rattle.verifier.specs.declared.verdict.Report.{Report}
-use Rattle.verifier.proofs.Clean.{no-flow-fault, clean-words, tested, parts, clean}
+use Rattle.verifier.proofs.Clean.{no-flow-fault, tested, parts, clean}
 use Rattle.verifier.proofs.Lists.{length-list, list-at}
 
 module _ (file : List ℕ) (none : wholeFault file ≡ Nothing) where

@@ -1,11 +1,10 @@
 -- Judging executables one after another: what is left of the answer at each stage of one of them. Assumes nothing.
-use mathlib.Core.Path.{_≡_, refl, sym, ap, _∙_}
+use mathlib.Core.Path.{_≡_, sym, ap, _∙_}
 use mathlib.Core.List.{List}
 use Prim.Native.Nat.{ℕ, _+_, _*_, _-_, _≤_, _<_}
 use native.Mathlib.Omega.{arith}
-use lib.Dec.{eqb}
 use lib.ListN.{length, set, replicate}
-use Rattle.answer.specs.Answers.{Answer, given, refused}
+use Rattle.answer.specs.Answers.{given, refused}
 use Rattle.answer.specs.Faults.{orElse, firstIn}
 use Rattle.answer.specs.declared.Fault.{Fault}
 use Rattle.answer.specs.declared.Fault.the-variants.{Nothing, At}
@@ -14,7 +13,6 @@ use Rattle.container.specs.Executable.{executableOf, executableFault}
 use Rattle.container.specs.declared.executables.Executable.{Executable}
 use Rattle.container.specs.declared.programs.Program.{Program}
 use Rattle.container.specs.Program.{programOf}
-use Rattle.container.specs.declared.placement.Table.{Table}
 use Rattle.flow.proofs.Places.{refused-inside, entered}
 use Rattle.flow.specs.Flow.{flowed, flowAnswer, flowOf}
 use Rattle.flow.specs.declared.entry.Flow.{Flow}

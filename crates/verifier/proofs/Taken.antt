@@ -4,7 +4,6 @@ use mathlib.Core.List.{List}
 use Prim.Native.Nat.{ℕ, _≤_}
 use Rattle.answer.specs.Answers.{given, refused}
 use Rattle.verifier.specs.Clean.{Clean}
-use Rattle.verifier.specs.Promise.{AcceptsClean}
 use Rattle.verifier.specs.Verdict.{libraryOf, checkOf, checkedAs}
 use Rattle.verifier.specs.declared.verdict.Checked.{Checked}
 use Rattle.verifier.specs.declared.verdict.Checked.the-variants.{Accepted, Refused}

@@ -12,7 +12,7 @@ use Rattle.container.specs.Placement.{misplaced, wordsMeet}
 use Rattle.container.specs.Program.{programOf, headerFault, badSizes, misplacedTable, overlappedWords, programFault, libraryFault}
 use Rattle.flow.specs.Flow.{flowOf}
 use Rattle.flow.specs.Own.{ownFrom, ownWords}
-use Rattle.flow.specs.Stepping.{Settings, State, start, Run, done, failed, unfinished, arrive, break, execute, step, run}
+use Rattle.flow.specs.Stepping.{start, Run, done, failed, unfinished, arrive, break, execute, step, run}
 use Rattle.flow.specs.Visits.{faultAt, parts, visit, region, traceTo, spare, size, trace, mainTrace, flowFault}
 use Rattle.instruction.specs.Control.{controlOf}
 use Rattle.instruction.specs.Operands.{descriptorOf, operatorsOf}

@@ -1,18 +1,17 @@
 -- The walk's answers: the check's refusal; 29; 30; the run. Assumes nothing.
 use mathlib.Core.Path.{_≡_, refl, sym, ap, _∙_}
-use mathlib.Core.Bool.{Bool, true, false, _||_, cond}
+use mathlib.Core.Bool.{Bool, true, false, _||_}
 use mathlib.Core.List.{List}
 use mathlib.Core.Logic.{_⊎_, inl, inr}
-use Prim.Native.Nat.{ℕ, zero, suc, _+_, _≤_, _<_}
+use Prim.Native.Nat.{ℕ, zero, suc, _≤_, _<_}
 use native.Mathlib.Omega.{arith}
 use lib.Dec.{ltb}
 use lib.ListN.{length, getD}
 use lib.Seq.{sets}
 use borrow.Author.Tests.{lt-ltb, le-ltb}
-use Rattle.answer.specs.Answers.{given, refused}
+use Rattle.answer.specs.Answers.{given}
 use Rattle.container.specs.Executable.{executableOf}
 use Rattle.container.specs.Program.{programOf}
-use Rattle.flow.specs.Flow.{codeOf}
 use Rattle.flow.specs.Rules.{Code}
 use Rattle.flow.specs.Stepping.{Settings, State, start, Next, ends, stuck, goes, step, Run, done, failed, unfinished, after, onward, run}
 use Rattle.flow.specs.WholeRun.{Whole}
@@ -25,7 +24,7 @@ use Rattle.verifier.specs.Promise.{codeFor, startFor}
 use Rattle.verifier.specs.Verdict.{checkOf, checkedAs, libraryOf}
 use Rattle.verifier.specs.Words.{wordAt, wordsOf}
 use Rattle.verifier.specs.declared.verdict.Checked.{Checked}
-use Rattle.verifier.specs.declared.verdict.Checked.the-variants.{Accepted, Refused}
+use Rattle.verifier.specs.declared.verdict.Checked.the-variants.{Refused}
 use Rattle.verifier.specs.declared.verdict.Library.{Library}
 use Rattle.walk.specs.Inside.{refusalIn, Runs, fetchesBy}
 use Rattle.walk.specs.Walk.{settingsOf, runOf, fetchesIn, walkFetches, RunsWhole, stepsOf, writtenTo, walkedAs}

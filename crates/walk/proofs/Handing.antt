@@ -1,13 +1,11 @@
 -- The answers of the constant call: the check's refusal; 29; the constant. Assumes nothing.
-use mathlib.Core.Path.{_≡_, refl, sym, ap, _∙_}
-use mathlib.Core.Bool.{true, false}
+use mathlib.Core.Path.{_≡_, sym, ap, _∙_}
 use mathlib.Core.List.{List}
-use Prim.Native.Nat.{ℕ, _+_, _*_, _≤_, _<_}
+use Prim.Native.Nat.{ℕ, _*_, _≤_, _<_}
 use native.Mathlib.Omega.{arith}
 use lib.ListN.{drop}
 use lib.Seq.{drop-drop}
 use borrow.Author.Tests.{lt-ltb, le-ltb}
-use Rattle.answer.specs.Answers.{given, refused}
 use Rattle.container.specs.Executable.{executableOf}
 use Rattle.container.specs.declared.executables.Executable.{Executable}
 use Rattle.flow.proofs.Tests.{true-not-false}

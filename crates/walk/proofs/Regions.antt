@@ -1,7 +1,7 @@
 -- Laws of the open regions in three arrays: opening one, arriving at a word, leaving a LOOP. Assumes nothing.
 use mathlib.Core.Path.{_≡_, refl, sym, ap, _∙_}
 use mathlib.Core.Bool.{Bool, true, false, not, _&&_}
-use mathlib.Core.List.{List, [], _∷_}
+use mathlib.Core.List.{List, _∷_}
 use mathlib.Core.Logic.{_⊎_, inl, inr}
 use Prim.Native.Nat.{ℕ, zero, suc, _+_, _-_, _≤_, _<_}
 use native.Mathlib.Numerals.{add-one}
@@ -10,8 +10,7 @@ use lib.Dec.{eqb, ltb}
 use lib.ListN.{length, getD, set}
 use lib.Seq.{getD-set-same, getD-set-other}
 use borrow.Author.Tests.{lt-ltb, le-ltb, eq-eqb, ne-eqb}
-use Rattle.flow.specs.Rules.{pick}
-use Rattle.walk.specs.Inside.{Frame, frame, framesOf, standing, closing, leaving}
+use Rattle.walk.specs.Inside.{frame, framesOf, standing, closing, leaving}
 
 pub frames-length : (es qs ts : List ℕ) (n : ℕ) → length (framesOf es qs ts n) ≡ n
 unfolding framesOf

@@ -11,15 +11,15 @@ use Rattle.flow.proofs.Tests.{true-not-false}
 use Rattle.flow.specs.Flow.{codeOf}
 use Rattle.flow.specs.Rules.{Code, pick}
 use Rattle.flow.specs.Stepping.{Settings, State, start, Next, ends, stuck, goes, execute, someOpen, step, Run, done, failed, unfinished, after, onward, run}
-use Rattle.flow.specs.WholeRun.{Good, All, nil, each, Whole}
+use Rattle.flow.specs.WholeRun.{Good, All, each}
 use Rattle.instruction.specs.Control.{controlOf}
 use Rattle.instruction.specs.declared.flow_control.Control.{Control}
 use Rattle.instruction.specs.declared.flow_control.Control.the-variants.{Plain}
 use Rattle.verifier.proofs.Lists.{filled-at, sets-append}
-use Rattle.walk.specs.Inside.{Frame, frame, shown, Standing, standing, view, moveOf, ending, arriveBy, readBy, controlsOf, Runs, fetchesBy}
+use Rattle.walk.specs.Inside.{Frame, frame, shown, standing, view, moveOf, ending, arriveBy, readBy, controlsOf, Runs, fetchesBy}
 use Rattle.walk.specs.Walk.{indicesOf, fetchesIn}
 use Rattle.walk.specs.declared.moves.Move.{Move}
-use Rattle.walk.proofs.Steps.{Shows, Follows, halts, follows, shown-few}
+use Rattle.walk.proofs.Steps.{Follows, halts, follows, shown-few}
 
 words-length : (l : List State) → length (indicesOf l) ≡ length l
 words-length [] = refl

@@ -1,13 +1,13 @@
 -- A step of the stepping rules is a move of the engine. Assumes nothing.
-use mathlib.Core.Path.{_≡_, refl, sym, ap, _∙_}
+use mathlib.Core.Path.{_≡_, refl, sym, ap}
 use mathlib.Core.Bool.{Bool, true, false, not}
 use mathlib.Core.List.{List, [], _∷_}
-use Prim.Native.Nat.{ℕ, zero, suc, _+_, _-_, _≤_, _<_}
+use Prim.Native.Nat.{ℕ, zero, suc, _+_, _-_, _≤_}
 use native.Mathlib.Omega.{arith}
 use lib.Dec.{eqb, leb, ltb}
-use lib.ListN.{length, getD}
-use borrow.Author.Tests.{lt-ltb, le-ltb, ne-eqb, eqb-true}
-use Rattle.flow.specs.Rules.{Code, pick}
+use lib.ListN.{length}
+use borrow.Author.Tests.{lt-ltb, ne-eqb, eqb-true}
+use Rattle.flow.specs.Rules.{pick}
 use Rattle.flow.specs.Stepping.{Settings, State, state, Open, main, part, body, called, Next, ends, stuck, goes, arrive, break, holds, reads, on, execute}
 use Rattle.flow.specs.WholeRun.{openCalls, openIfs, openLoops}
 use Rattle.instruction.specs.declared.flow_control.Condition.{Condition}

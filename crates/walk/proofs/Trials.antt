@@ -5,7 +5,7 @@ use mathlib.Core.List.{List, [], _∷_, _++_, map}
 use Prim.Native.Nat.{ℕ}
 use lib.Ieee.{binary32, ofBits}
 use lib.ListN.{replicate, take}
-use Rattle.answer.specs.Answers.{Answer, given, refused}
+use Rattle.answer.specs.Answers.{given, refused}
 use Rattle.answer.specs.Faults.{firstIn}
 use Rattle.container.specs.Executable.{misplacedSection, badEntry, misplacedTables, overlappedByTables, executableFault}
 use Rattle.container.specs.Placement.{misplaced, wordsMeet}

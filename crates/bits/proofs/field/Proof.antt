@@ -1,8 +1,7 @@
 -- `bits::field` meets its contract: a shift is a division by a power, and past the word's 32 bits there is nothing. Assumes nothing.
-use mathlib.Core.Path.{_≡_, refl, sym, ap, _∙_}
-use Prim.Native.Nat.{ℕ, _*_, _/_, _%_, _^_, _<_, _≤_}
+use mathlib.Core.Path.{_≡_, sym, ap, _∙_}
+use Prim.Native.Nat.{ℕ, _/_, _%_, _^_, _<_, _≤_}
 use native.Mathlib.Nat.{div-eq-of-lt, mod-eq-of-lt, lt-of-lt-of-le, lt-of-le-of-lt}
-use native.Mathlib.Omega.{arith}
 use lib.Pow.{pow-pos, pow-mono, shr-le}
 use borrow.Author.Needs.{needs}
 use Rattle.bits.specs.Fields.{field}

@@ -1,6 +1,5 @@
 -- `executables::executable_of` meets its contract. Assumes nothing.
 use borrow.Author.Needs.{needs}
-use Rattle.container.specs.Executable.{executableOf}
 use Rattle.container.proofs.executables.executable_of.Statement.{statement}
 use Rattle.container.proofs.executables.executable_of.Tie as tie
 

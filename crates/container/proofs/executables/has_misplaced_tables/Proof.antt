@@ -1,5 +1,5 @@
 -- `executables::has_misplaced_tables` meets its contract. Assumes nothing.
-use mathlib.Core.Path.{sym, ap, _∙_}
+use mathlib.Core.Path.{sym, _∙_}
 use borrow.Author.Needs.{needs}
 use Rattle.container.specs.Executable.{misplacedTables}
 use Rattle.container.proofs.executables.has_misplaced_tables.Statement.{statement}

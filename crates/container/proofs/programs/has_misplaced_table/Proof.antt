@@ -1,5 +1,5 @@
 -- `programs::has_misplaced_table` meets its contract. Assumes nothing.
-use mathlib.Core.Path.{sym, ap, _∙_}
+use mathlib.Core.Path.{sym, _∙_}
 use borrow.Author.Needs.{needs}
 use Rattle.container.specs.Program.{misplacedTable}
 use Rattle.container.proofs.programs.has_misplaced_table.Statement.{statement}

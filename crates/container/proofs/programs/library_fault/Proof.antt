@@ -1,10 +1,7 @@
 -- `programs::library_fault` meets its contract. Assumes nothing.
-use mathlib.Core.Path.{sym, ap, _∙_}
-use denote.Ref.{now}
+use mathlib.Core.Path.{sym, _∙_}
 use borrow.Author.Needs.{needs}
-use Rattle.answer.specs.Faults.{orElse}
-use Rattle.answer.specs.declared.Fault.{Fault}
-use Rattle.container.specs.Program.{programFault, libraryFault}
+use Rattle.container.specs.Program.{libraryFault}
 use Rattle.container.proofs.programs.library_fault.Statement.{statement}
 use Rattle.container.proofs.programs.library_fault.Tie as tie
 

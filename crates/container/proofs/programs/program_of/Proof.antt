@@ -1,10 +1,5 @@
 -- `programs::program_of` meets its contract. Assumes nothing.
-use mathlib.Core.Path.{_≡_, sym, ap, ap₂, _∙_}
-use native.Mathlib.Omega.{arith}
-use denote.Ref.{now}
 use borrow.Author.Needs.{needs}
-use Rattle.container.specs.Placement.{tableAt}
-use Rattle.container.specs.Program.{programOf}
 use Rattle.container.proofs.programs.program_of.Statement.{statement}
 use Rattle.container.proofs.programs.program_of.Tie as tie
 

@@ -1,5 +1,5 @@
 -- `programs::words_overlap` meets its contract. Assumes nothing.
-use mathlib.Core.Path.{sym, ap, _∙_}
+use mathlib.Core.Path.{sym, _∙_}
 use borrow.Author.Needs.{needs}
 use Rattle.container.specs.Program.{overlappedWords}
 use Rattle.container.proofs.programs.words_overlap.Statement.{statement}

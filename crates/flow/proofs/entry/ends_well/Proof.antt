@@ -1,5 +1,5 @@
 -- `entry::ends_well` meets its contract: each arm is the last word's control. Assumes nothing.
-use mathlib.Core.Path.{_≡_, refl, sym, _∙_}
+use mathlib.Core.Path.{sym, _∙_}
 use borrow.Author.Needs.{needs}
 use Rattle.flow.proofs.entry.ends_well.Statement.{statement}
 use Rattle.flow.proofs.entry.ends_well.Tie as tie

@@ -1,5 +1,5 @@
 -- `entry::measure` meets its contract. Assumes nothing.
-use mathlib.Core.Path.{_≡_, refl, sym, _∙_}
+use mathlib.Core.Path.{sym, _∙_}
 use mathlib.Core.Bool.{Bool, false}
 use lib.ListN.{length-replicate}
 use native.Mathlib.Omega.{arith}

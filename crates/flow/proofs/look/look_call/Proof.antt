@@ -1,5 +1,4 @@
 -- `look::look_call` meets its contract. Assumes nothing.
-use native.Mathlib.Omega.{arith}
 use borrow.Author.Needs.{needs}
 use borrow.Author.Tests.{le-leb, lt-leb}
 use Rattle.flow.specs.Inside.{lookCall}

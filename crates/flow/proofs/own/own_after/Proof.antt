@@ -1,5 +1,5 @@
 -- `own::own_after` meets its contract: each arm is the word's control. Assumes nothing.
-use mathlib.Core.Path.{_≡_, refl, sym, _∙_}
+use mathlib.Core.Path.{sym, _∙_}
 use borrow.Author.Needs.{needs}
 use Rattle.flow.proofs.own.own_after.Statement.{statement}
 use Rattle.flow.proofs.own.own_after.Tie as tie

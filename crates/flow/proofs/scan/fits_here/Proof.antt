@@ -7,8 +7,6 @@ use borrow.Author.Needs.{needs}
 use Rattle.flow.specs.Inside.{fitsHere}
 use Rattle.flow.proofs.scan.fits_here.Statement.{statement}
 use Rattle.flow.proofs.scan.fits_here.Tie as tie
-use Rattle.flow.proofs.scan.fits_here.Reads as reads
-use Rattle.flow.proofs.scan.fits_here.Lts as lts
 
 product : (w k : ℕ) → w ≤ 65536 → k < 2 ^ 32 → w * k < 2 ^ 49
 product w k h g = omega (arith, mul-le-mul-right k h)

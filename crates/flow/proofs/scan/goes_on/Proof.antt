@@ -1,8 +1,6 @@
 use borrow.Author.Needs.{needs}
 use Rattle.flow.proofs.scan.goes_on.Statement.{statement}
 use Rattle.flow.proofs.scan.goes_on.Tie as tie
-use Rattle.flow.proofs.scan.goes_on.Reads as reads
-use Rattle.flow.proofs.scan.goes_on.Lts as lts
 
 -- src/scan.rt:162:29
 enum-told : tie.Need-enum-told

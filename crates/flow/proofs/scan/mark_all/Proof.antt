@@ -1,7 +1,6 @@
 -- `scan::mark_all` meets its contract: what is marked, and from here on, is all. Assumes nothing.
 use mathlib.Core.Path.{_≡_, refl, sym, _∙_}
 use Prim.Native.Nat.{_-_}
-use native.Mathlib.Omega.{arith}
 use borrow.Author.Needs.{needs}
 use Rattle.flow.specs.Inside.{markAll}
 use Rattle.flow.proofs.NoTests.{mark-next, mark-none}

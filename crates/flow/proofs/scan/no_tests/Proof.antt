@@ -1,7 +1,6 @@
 -- `scan::no_tests` meets its contract: all are plain exactly if all from here on are. Assumes nothing.
 use mathlib.Core.Path.{_≡_, refl, sym, ap, _∙_}
 use Prim.Native.Nat.{_-_}
-use native.Mathlib.Omega.{arith}
 use borrow.Author.Needs.{needs}
 use Rattle.flow.specs.Flow.{codeOf}
 use Rattle.flow.specs.Inside.{noTests, goesOn}

@@ -1,15 +1,13 @@
 -- `encoding::coded` meets its contract: the arm of a format packs at that format's layout. Assumes nothing.
-use mathlib.Core.Path.{_≡_, refl, sym, ap, subst, _∙_}
-use mathlib.Core.List.{List}
+use mathlib.Core.Path.{_≡_, refl, sym, ap, _∙_}
 use Prim.Native.Nat.{ℕ}
 use native.Mathlib.Omega.{arith}
-use lib.Dec.{eqb}
 use lib.ListN.{length}
 use denote.Ref.{now}
 use borrow.Author.Needs.{needs}
 use borrow.Author.Tests.{eq-eqb, ne-eqb}
 use Rattle.bits.specs.Fields.{total, fit, pack}
-use Rattle.answer.specs.Answers.{Answer, refused}
+use Rattle.answer.specs.Answers.{Answer}
 use Rattle.instruction.specs.Operations.{tag, entryFormat}
 use Rattle.instruction.specs.Words.{layout, orRefused, codeOf}
 use Rattle.instruction.specs.declared.operation.Format.{Format}

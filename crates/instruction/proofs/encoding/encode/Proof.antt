@@ -1,5 +1,5 @@
 -- `encoding::encode` meets its contract: each arm hands over its variant's number, format and parts. Assumes nothing.
-use mathlib.Core.Path.{_≡_, refl, sym, ap, _∙_}
+use mathlib.Core.Path.{refl, sym, ap, _∙_}
 use borrow.Author.Needs.{needs}
 use Rattle.instruction.specs.Words.{encodeOf}
 use Rattle.instruction.proofs.encoding.encode.Statement.{statement}

@@ -1,5 +1,4 @@
 -- `operation::arithmetic_format` meets its contract: each arm's numbers are ranges, and the list has the arm's format at each number of them. Assumes nothing.
-use mathlib.Core.Path.{_≡_}
 use mathlib.Core.Logic.{⊎-elim}
 use native.Mathlib.Omega.{arith}
 use Rattle.instruction.specs.Operations.{formatOf, operations}

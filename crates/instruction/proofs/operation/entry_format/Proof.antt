@@ -1,6 +1,6 @@
 -- `operation::entry_format` meets its contract: an opcode is its entry's lowest unless it is one of the higher opcodes of CMP, MADI and MAD. Assumes nothing.
-use mathlib.Core.Path.{_≡_, sym, _∙_}
-use mathlib.Core.Logic.{⊎-elim, inl, inr}
+use mathlib.Core.Path.{sym, _∙_}
+use mathlib.Core.Logic.{⊎-elim}
 use native.Mathlib.Omega.{arith}
 use borrow.Author.Needs.{needs}
 use Rattle.instruction.specs.Operations.{formatOf, entryFormat, operations}

@@ -1,15 +1,13 @@
 -- `fields::zeros_from` meets its contract. Before each turn the numbers below i are zeros. Assumes nothing.
 use mathlib.Core.Path.{_≡_, refl, sym, _∙_}
-use Prim.Native.Nat.{_-_, _≤_}
+use Prim.Native.Nat.{_-_}
 use native.Mathlib.Omega.{arith}
-use lib.ListN.{length, take, drop}
+use lib.ListN.{take, drop}
 use borrow.Author.Needs.{needs}
 use Rattle.pica.specs.Words.{zeros}
 use Rattle.pica.proofs.Laws.{zero-here, not-zero, none-left}
 use Rattle.pica.proofs.fields.zeros_from.Statement.{statement}
 use Rattle.pica.proofs.fields.zeros_from.Tie as tie
-use Rattle.pica.proofs.fields.zeros_from.Reads as reads
-use Rattle.pica.proofs.fields.zeros_from.Lts as lts
 
 abbrev Inv-loop : tie.InvT-loop
 Inv-loop n at i₀ i = zeros (drop at (take 8 n)) ≡ zeros (drop i (take 8 n))

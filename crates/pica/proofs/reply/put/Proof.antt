@@ -2,14 +2,12 @@
 use mathlib.Core.Path.{_≡_, refl, ap, _∙_}
 use Prim.Native.Nat.{_-_, _≤_}
 use native.Mathlib.Omega.{arith}
-use lib.ListN.{length, take, length-set}
+use lib.ListN.{length, take}
 use lib.Seq.{sets, length-sets, take-all}
 use borrow.Author.Needs.{needs}
 use Rattle.pica.proofs.Laws.{put-next}
 use Rattle.pica.proofs.reply.put.Statement.{statement}
 use Rattle.pica.proofs.reply.put.Tie as tie
-use Rattle.pica.proofs.reply.put.Reads as reads
-use Rattle.pica.proofs.reply.put.Lts as lts
 
 abbrev Inv-loop : tie.InvT-loop
 Inv-loop out₀ numbers i₀ i-end out i = (i ≤ i-end) × (i-end ≡ length numbers) × (out ≡ sets out₀ 0 (take i numbers))

@@ -2,10 +2,9 @@
 use mathlib.Core.Path.{_≡_, ap, _∙_}
 use native.Mathlib.Nat.{mod-lt}
 use native.Mathlib.Omega.{arith}
-use lib.ListN.{length, drop}
+use lib.ListN.{length}
 use lib.Seq.{length-sets}
 use borrow.Author.Needs.{needs}
-use Rattle.text.specs.Pieces.{digits}
 use Rattle.text.proofs.Putting.{Left, all-left, one-less, none-left}
 use Rattle.text.proofs.piece.put_digits.Statement.{statement}
 use Rattle.text.proofs.piece.put_digits.Tie as tie

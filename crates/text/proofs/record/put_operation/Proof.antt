@@ -1,8 +1,8 @@
 -- `record::put_operation` meets its contract. Assumes nothing.
-use mathlib.Core.Path.{_≡_, sym, ap, _∙_}
+use mathlib.Core.Path.{sym, ap, _∙_}
 use borrow.Author.Needs.{needs}
-use Rattle.answer.specs.Answers.{given, refused}
-use Rattle.instruction.specs.Words.{decoded, decodeOf}
+use Rattle.answer.specs.Answers.{given}
+use Rattle.instruction.specs.Words.{decoded}
 use Rattle.text.specs.Records.{operationText}
 use Rattle.text.proofs.Putting.{_then_, no-piece}
 use Rattle.text.proofs.record.put_operation.Statement.{statement}

@@ -1,5 +1,5 @@
 -- `earlier::names_end_of` meets its contract. Assumes nothing.
-use mathlib.Core.Path.{_≡_, ap, _∙_}
+use mathlib.Core.Path.{ap, _∙_}
 use borrow.Author.Needs.{needs}
 use Rattle.tables.specs.Names.{namesEnd}
 use Rattle.verifier.proofs.earlier.names_end_of.Statement.{statement}

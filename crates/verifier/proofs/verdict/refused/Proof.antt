@@ -1,5 +1,4 @@
 -- `verdict::refused` meets its contract. Assumes nothing.
-use mathlib.Core.Path.{_≡_}
 use borrow.Author.Needs.{needs}
 use Rattle.verifier.proofs.verdict.refused.Statement.{statement}
 use Rattle.verifier.proofs.verdict.refused.Tie as tie

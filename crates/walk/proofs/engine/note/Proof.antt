@@ -1,5 +1,5 @@
 -- `engine::note` meets its contract. Assumes nothing.
-use mathlib.Core.Path.{_≡_, sym}
+use mathlib.Core.Path.{sym}
 use lib.Seq.{set-out}
 use borrow.Author.Needs.{needs}
 use Rattle.walk.proofs.engine.note.Statement.{statement}

@@ -1,12 +1,10 @@
 -- `engine::run_main` meets its contract. Before each turn the arrays show the state of the run after so many steps; what is left of the run falls with each. Assumes nothing.
-use mathlib.Core.Path.{_≡_, refl, sym, ap, _∙_}
-use mathlib.Core.List.{List, []}
-use Prim.Native.Nat.{ℕ, _+_, _*_, _-_, _≤_, _<_}
+use mathlib.Core.Path.{_≡_, refl, sym, _∙_}
+use Prim.Native.Nat.{_-_}
 use native.Mathlib.Omega.{arith}
-use lib.ListN.{length, getD}
+use lib.ListN.{length}
 use borrow.Author.Needs.{needs}
-use Rattle.flow.specs.Stepping.{Settings}
-use Rattle.walk.specs.Inside.{frame, framesOf, fetchesBy}
+use Rattle.walk.specs.Inside.{framesOf, fetchesBy}
 use Rattle.walk.specs.Walk.{settingsOf}
 use Rattle.walk.proofs.Regions.{frames-length}
 use Rattle.walk.proofs.Running.{Going, word-inside, shallow, early, moved-is, goes-on, ended, few-steps, begins}

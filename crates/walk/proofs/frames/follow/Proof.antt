@@ -1,8 +1,8 @@
 -- `frames::follow` meets its contract. Assumes nothing.
-use mathlib.Core.Path.{_≡_, refl, ap, _∙_}
+use mathlib.Core.Path.{refl, ap, _∙_}
 use native.Mathlib.Omega.{arith}
 use borrow.Author.Needs.{needs}
-use Rattle.walk.specs.Inside.{framesOf, Standing, standing, closing, arriveBy, readBy}
+use Rattle.walk.specs.Inside.{framesOf, closing}
 use Rattle.walk.proofs.frames.follow.Statement.{statement}
 use Rattle.walk.proofs.frames.follow.Tie as tie
 

@@ -1,9 +1,8 @@
 -- `frames::leave` meets its contract. Before each turn no LOOP is among the regions passed. Assumes nothing.
 use mathlib.Core.Path.{_≡_, refl, _∙_}
 use mathlib.Core.List.{List}
-use Prim.Native.Nat.{ℕ, _-_, _≤_, _<_}
+use Prim.Native.Nat.{ℕ, _-_, _≤_}
 use native.Mathlib.Omega.{arith}
-use lib.ListN.{length}
 use borrow.Author.Needs.{needs}
 use Rattle.walk.specs.Inside.{framesOf, leaving}
 use Rattle.walk.proofs.Regions.{leaves-here, leaves-on, leaves-none}

@@ -1,5 +1,4 @@
 -- `moves::is_true` meets its contract. Assumes nothing.
-use mathlib.Core.Path.{_≡_}
 use borrow.Author.Needs.{needs}
 use Rattle.walk.proofs.Settings.{truth-at}
 use Rattle.walk.proofs.moves.is_true.Statement.{statement}

@@ -1,5 +1,4 @@
 -- `moves::move_call` meets its contract. Assumes nothing.
-use mathlib.Core.Path.{_≡_}
 use borrow.Author.Needs.{needs}
 use Rattle.walk.proofs.moves.move_call.Statement.{statement}
 use Rattle.walk.proofs.moves.move_call.Tie as tie

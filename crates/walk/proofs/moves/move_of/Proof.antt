@@ -1,5 +1,5 @@
 -- `moves::move_of` meets its contract. Assumes nothing.
-use mathlib.Core.Path.{_≡_, _∙_}
+use mathlib.Core.Path.{_∙_}
 use borrow.Author.Needs.{needs}
 use Rattle.walk.proofs.moves.move_of.Statement.{statement}
 use Rattle.walk.proofs.moves.move_of.Tie as tie

@@ -1,5 +1,4 @@
 -- `moves::read_after` meets its contract. Assumes nothing.
-use mathlib.Core.Path.{_≡_}
 use native.Mathlib.Numerals.{add-one}
 use borrow.Author.Needs.{needs}
 use Rattle.walk.proofs.moves.read_after.Statement.{statement}

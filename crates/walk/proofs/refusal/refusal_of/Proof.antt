@@ -1,5 +1,4 @@
 -- `refusal::refusal_of` meets its contract. Assumes nothing.
-use mathlib.Core.Path.{_≡_}
 use borrow.Author.Needs.{needs}
 use Rattle.walk.proofs.refusal.refusal_of.Statement.{statement}
 use Rattle.walk.proofs.refusal.refusal_of.Tie as tie
