@@ -1,15 +1,18 @@
 // Byte offsets and word addresses, little-endian numbers in a file, ranges of bytes. Every function is total: a byte past the end reads as 0, and no sum wraps.
+
+#![tactic(auto)]
+
 ghost use Rattle.std.specs.Prelude.{◌≡◌, ◌+◌, ◌*◌, length, take, drop};
 ghost use Rattle.binary.specs.Addresses.{offset_of_word};
 ghost use Rattle.binary.specs.Bytes.{u8_at, u16_at, u32_at};
 ghost use Rattle.binary.specs.Ranges.{range_of, inside, share};
 
 // The address of a word, counted in words from the start of the opcode table.
-#[derive(Drop)]
+#[derive(Clone, Copy)]
 pub struct WordAddress(pub u32);
 
 // The offset of a byte. Offsets that a file holds have 32 bits, their sums more.
-#[derive(Drop)]
+#[derive(Clone, Copy)]
 pub struct ByteOffset(pub u64);
 
 // Where a word starts, counted in bytes from the start of the opcode table: the one way from a word address to a byte offset.
@@ -78,7 +81,7 @@ pub fn u32_at(s: &[u8], at: ByteOffset) -> u32
 }
 
 // A run of `size` bytes from `start` on.
-#[derive(Drop)]
+#[derive(Clone, Copy)]
 pub struct Range {
     pub start: ByteOffset,
     pub size: u64,

@@ -1,4 +1,7 @@
 // Bit fields of a word, by position and width. The laws that hold of every layout stand in proofs/Laws.antt.
+
+#![tactic(auto)]
+
 ghost use Rattle.std.specs.Prelude.{◌≡◌};
 ghost use Rattle.bits.specs.Fields.{field};
 

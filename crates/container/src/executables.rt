@@ -10,7 +10,7 @@ use binary::{ByteOffset, Range, WordAddress, is_inside, tail, u8_at, u16_at, u32
 const DVLE: u32 = 0x454c_5644;
 
 // What an executable says of itself: its shader's type, where it is entered and where it ends, its register masks, its tables.
-#[derive(Drop)]
+#[derive(Clone, Copy)]
 pub struct Executable {
     pub shader_type: u8,
     pub main: WordAddress,

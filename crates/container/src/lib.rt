@@ -1,4 +1,7 @@
 // The sections of a DVLB library: where its tables lie, and whether they lie where they may.
+
+#![tactic(auto)]
+
 mod executables;
 mod placement;
 mod programs;

@@ -5,7 +5,7 @@ ghost use Rattle.container.specs.Placement.{table_at, misplaced, words_meet, wor
 use binary::{ByteOffset, Range, is_inside, range_of, shares_byte, u32_at};
 
 // A table as its section tells of it: its offset from the section's start, where that is in the file, and how many entries it has.
-#[derive(Drop)]
+#[derive(Clone, Copy)]
 pub struct Table {
     pub offset: u32,
     pub start: ByteOffset,

@@ -12,7 +12,7 @@ const DVLB: u32 = 0x424c_5644;
 const DVLP: u32 = 0x504c_5644;
 
 // Where the words and the descriptors lie and how many there are; the line table and the symbol table of file names.
-#[derive(Drop)]
+#[derive(Clone, Copy)]
 pub struct Program {
     pub words: Table,
     pub descriptors: Table,
@@ -21,7 +21,7 @@ pub struct Program {
 }
 
 // The most words and descriptors that a library may have.
-#[derive(Drop)]
+#[derive(Clone, Copy)]
 pub struct Limits {
     pub words: u32,
     pub descriptors: u32,

@@ -13,7 +13,7 @@ use binary::WordAddress;
 use instruction::{Control, control_of};
 
 // The total and the number of distinct words visited, or a fault's number and word; 7, 15 and 16 have no word, and 0 as their place.
-#[derive(Drop)]
+#[derive(Clone, Copy)]
 pub enum Flow {
     Passed { total: u32, words: u32 },
     Refused { number: u32, word: u32 },

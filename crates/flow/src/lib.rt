@@ -1,4 +1,7 @@
 // The flow check of one main: the visits that document 01 asks for, their total and the distinct words among them, or the first fault.
+
+#![tactic(auto)]
+
 mod entry;
 mod look;
 mod own;

@@ -8,7 +8,7 @@ use binary::WordAddress;
 use instruction::{Control, control_of};
 
 // What is open at a word, that of callers included; and whether a LOOP is open in the same main or called region.
-#[derive(Drop)]
+#[derive(Clone, Copy)]
 pub struct Opens {
     pub calls: u32,
     pub ifs: u32,
@@ -17,7 +17,7 @@ pub struct Opens {
 }
 
 // The most calls, IFs and LOOPs open, the most total, and whether EMIT and SETEMIT are allowed.
-#[derive(Drop)]
+#[derive(Clone, Copy)]
 pub struct Allowed {
     pub calls: u32,
     pub ifs: u32,
@@ -27,7 +27,7 @@ pub struct Allowed {
 }
 
 // A region to visit: what is open in it, what each visit adds to the total, its first word and its end.
-#[derive(Drop)]
+#[derive(Clone, Copy)]
 pub struct Part {
     pub opens: Opens,
     pub weight: u32,
@@ -37,7 +37,7 @@ pub struct Part {
 
 // What a visited word asks for: to be refused, to go on at the next word, or to visit one part or two and then go on at a word. Of two, the second begins where the
 // first ends, has the same open, and ends at that word.
-#[derive(Drop)]
+#[derive(Clone, Copy)]
 pub enum Look {
     Refuse(u32),
     Next,

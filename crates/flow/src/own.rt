@@ -8,7 +8,7 @@ ghost use Rattle.flow.specs.Own.{own_words, has};
 use instruction::{Control, control_of, is_block};
 
 // The own word after another; none after an IF or LOOP with bad bounds.
-#[derive(Drop)]
+#[derive(Clone, Copy)]
 pub enum After {
     At(u32),
     Stop,

@@ -9,14 +9,14 @@ use binary::WordAddress;
 use instruction::{Control, control_of};
 
 // The total so far, or the first fault's number and word.
-#[derive(Drop)]
+#[derive(Clone, Copy)]
 pub enum Scan {
     Go(u32),
     Stop(u32, WordAddress),
 }
 
 // Counts of calls, IFs and LOOPs, each the most that were open at once: those open around a region among them, or, where remembered, without those.
-#[derive(Drop)]
+#[derive(Clone, Copy)]
 pub struct Deep {
     pub calls: u32,
     pub ifs: u32,
@@ -24,7 +24,7 @@ pub struct Deep {
 }
 
 // What scanning a part leaves. After a fault nothing is said of the depths.
-#[derive(Drop)]
+#[derive(Clone, Copy)]
 pub struct Outcome {
     pub scan: Scan,
     pub deep: Deep,

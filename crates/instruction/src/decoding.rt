@@ -7,7 +7,7 @@ use bits::field;
 
 // The fields of a word, a variant for each format. First the operation's number, which is the lowest opcode of its entry; then
 // the fields from bit 0 up, under document 004's names; `rest` are the bits that the format does not name.
-#[derive(Drop)]
+#[derive(Clone, Copy)]
 pub enum Fields {
     // op, rest
     Format0(u32, u32),
@@ -34,7 +34,7 @@ pub enum Fields {
 // MAD and MADI have fewer bits for the descriptor ID, and so reach the first 32 descriptors only.
 pub(crate) const MAD_DESC_BITS: u32 = 5;
 
-#[derive(Drop)]
+#[derive(Clone, Copy)]
 pub enum Decoded {
     Known(Fields),
     Unknown,

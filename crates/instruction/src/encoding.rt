@@ -8,7 +8,7 @@ ghost use Rattle.instruction.specs.Words.{layout, or_refused, code_of, encoded, 
 use crate::decoding::Fields;
 use crate::operation::{Format, entry_format, tag};
 
-#[derive(Drop)]
+#[derive(Clone, Copy)]
 pub enum Encoded {
     Word(u32),
     Refused,

@@ -7,14 +7,14 @@ use binary::WordAddress;
 use bits::field;
 
 // When a word of control flow is taken: always; by the outcome of comparisons, which comes from outside; by a bool register.
-#[derive(Drop)]
+#[derive(Clone, Copy)]
 pub enum Condition {
     Always,
     Compared,
     Uniform(u32),
 }
 
-#[derive(Drop)]
+#[derive(Clone, Copy)]
 pub enum Control {
     // No operation has the opcode.
     Unknown,

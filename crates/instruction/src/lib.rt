@@ -1,4 +1,7 @@
 // Instruction words: decoding, encoding, what a word does to control flow, and the parts of an operand descriptor.
+
+#![tactic(auto)]
+
 mod decoding;
 mod encoding;
 mod flow_control;

@@ -6,7 +6,7 @@ use crate::decoding::MAD_DESC_BITS;
 use bits::field;
 
 // The ID of the operand descriptor that a word uses. An unknown word uses none.
-#[derive(Drop)]
+#[derive(Clone, Copy)]
 pub enum DescriptorId {
     Id(u32),
     Unused,
@@ -29,7 +29,7 @@ pub fn descriptor_of(word: u32) -> DescriptorId
 }
 
 // The compare operators of a CMP, 0 to 7 as the word has them.
-#[derive(Drop)]
+#[derive(Clone, Copy)]
 pub enum CompareOperators {
     // That of the components x, that of the components y.
     Compares(u32, u32),
@@ -55,7 +55,7 @@ pub fn takes_any_fields(word: u32) -> bool
 }
 
 // How a source is read: 1 if negated, and for each component which of x, y, z, w (0 to 3) it takes.
-#[derive(Drop)]
+#[derive(Clone, Copy)]
 pub struct Source {
     pub negated: u32,
     pub component0: u32,
@@ -79,7 +79,7 @@ fn source_at(descriptor: u32, pos: u32) -> Source
 }
 
 // An operand descriptor: the first four bytes of its entry.
-#[derive(Drop)]
+#[derive(Clone, Copy)]
 pub struct Descriptor(pub u32);
 
 impl Descriptor {

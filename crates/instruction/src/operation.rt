@@ -3,7 +3,7 @@ ghost use Rattle.std.specs.Prelude.{◌≡◌, ◌<◌, ◌≤◌};
 ghost use Rattle.instruction.specs.Operations.{tag, format_of, entry_format};
 
 // The formats of document 01. `Unlisted` is that of an opcode that no operation has.
-#[derive(Drop)]
+#[derive(Clone, Copy)]
 pub enum Format {
     Unlisted,
     F0,

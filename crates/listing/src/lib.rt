@@ -1,4 +1,7 @@
 // A whole library as text, in a lent buffer: the listing of its words, the report of its executables. Nothing is written where the library is refused or the buffer is too short.
+
+#![tactic(auto)]
+
 ghost use Rattle.std.specs.Prelude.{◌≡◌, ◌≤◌, length};
 ghost use Rattle.verifier.specs.Lists.{filled};
 ghost use Rattle.verifier.specs.Words.{word_at};
@@ -10,7 +13,7 @@ use text::{listing_line, report_line};
 use verifier::{Checked, check, judge};
 
 // How many bytes were written; or a refusal.
-#[derive(Drop)]
+#[derive(Clone, Copy)]
 pub enum Written {
     Bytes(u32),
     Refused { number: u32, place: u32 },

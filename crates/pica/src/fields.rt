@@ -5,7 +5,7 @@ ghost use Rattle.pica.specs.Words.{numbered_by, fields_by, zeros};
 use instruction::Fields;
 
 // A format's number, how many fields it has, and eight numbers: its fields and zeros after them.
-#[derive(Drop)]
+#[derive(Clone, Copy)]
 pub struct Numbered {
     pub format: u32,
     pub count: usize,

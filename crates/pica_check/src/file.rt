@@ -3,7 +3,7 @@ ghost use Rattle.io.specs.Counts.{IsPrefixLen};
 ghost use Rattle.pica_check.specs.Got.{gotten};
 
 // How many bytes were got, or that a read failed: a file that cannot be read is not an empty one.
-#[derive(Drop)]
+#[derive(Clone, Copy)]
 pub(crate) enum Got {
     Bytes(usize),
     Failed,

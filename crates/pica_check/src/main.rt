@@ -1,4 +1,7 @@
 // Judges the libraries that its arguments name: a line for each, accepted, or what is wrong.
+
+#![tactic(auto)]
+
 mod file;
 mod line;
 

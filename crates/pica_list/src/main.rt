@@ -1,4 +1,7 @@
 // Reads a library from standard input and writes its listing, or the record of its refusal.
+
+#![tactic(auto)]
+
 use libc::{STDIN_FILENO, STDOUT_FILENO};
 use listing::{Written, list};
 use text::refused_line;

@@ -1,4 +1,7 @@
 // Reads a library from standard input and writes its report, or the record of its refusal.
+
+#![tactic(auto)]
+
 use libc::{STDIN_FILENO, STDOUT_FILENO};
 use listing::{Written, summarize};
 use text::refused_line;

@@ -1,4 +1,7 @@
 // A stream of libraries on standard input, before each its length in four bytes with the lowest first: what the trials read.
+
+#![tactic(auto)]
+
 mod cut_short;
 mod input;
 
@@ -11,7 +14,7 @@ use input::{read_some, skip};
 use libc::STDIN_FILENO;
 
 // How many bytes of a library are kept; or that there is none.
-#[derive(Drop)]
+#[derive(Clone, Copy)]
 pub enum Next {
     Library(usize),
     Over,

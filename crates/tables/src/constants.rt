@@ -10,7 +10,7 @@ use binary::{ByteOffset, u8_at, u32_at};
 use bits::field;
 
 // An entry as the file has it: x, y, z, w are the words at 4, 8, 0Ch and 10h. A bool is the lowest byte of x; an integer's bytes are all four of x, lowest first.
-#[derive(Drop)]
+#[derive(Clone, Copy)]
 pub struct ConstantEntry {
     pub kind: u8,
     pub id: u8,
@@ -21,7 +21,7 @@ pub struct ConstantEntry {
 }
 
 // The value of an integer constant.
-#[derive(Drop)]
+#[derive(Clone, Copy)]
 pub struct ByteVector {
     pub x: u8,
     pub y: u8,
@@ -30,7 +30,7 @@ pub struct ByteVector {
 }
 
 // The value of a vector constant: each component has the value of its float24.
-#[derive(Drop)]
+#[derive(Clone, Copy)]
 pub struct FloatVector {
     pub x: f32,
     pub y: f32,
@@ -39,7 +39,7 @@ pub struct FloatVector {
 }
 
 // A constant's value, by its kind.
-#[derive(Drop)]
+#[derive(Clone, Copy)]
 pub enum Constant {
     Flag(bool),
     Bytes(ByteVector),
@@ -47,7 +47,7 @@ pub enum Constant {
 }
 
 // What an entry gives: its constant, or none if it is bad.
-#[derive(Drop)]
+#[derive(Clone, Copy)]
 pub enum Converted {
     Constant(Constant),
     Bad,

@@ -1,5 +1,8 @@
 // Tries `constant` on the libraries of standard input: a line for each of the first 13 constants of each executable, and one for the first that is not there.
 // Its stdin holds the outside libraries that have constants, and its stdout was made from the outside constants.
+
+#![tactic(auto)]
+
 mod lines;
 
 use lines::{write_constant, write_refused};

@@ -1,4 +1,7 @@
 // Tries the layout of libraries: for each file that an argument names, a line with the first of refusals 1 to 8 and 13 to 17, or `ok`.
+
+#![tactic(auto)]
+
 use answer::Fault;
 use container::{Limits, Table, executable_count, executable_fault, library_fault, program_of};
 use libc::STDOUT_FILENO;

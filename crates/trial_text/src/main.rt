@@ -1,5 +1,8 @@
 // Tries `listing` on the libraries of standard input: for each its listing and then its report.
 // Its stdin is that of trial_check; its stdout was made from the outside listings and reports.
+
+#![tactic(auto)]
+
 use libc::STDOUT_FILENO;
 use listing::{Written, list, summarize};
 use stream::{Next, next_library};

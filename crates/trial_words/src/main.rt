@@ -1,4 +1,7 @@
 // Tries `instruction` on the words of standard input, four bytes each with the lowest first: a line for each word.
+
+#![tactic(auto)]
+
 mod hex;
 mod line;
 

@@ -13,7 +13,7 @@ use flow::{Flow, flow_of};
 use tables::names_end;
 
 // An executable whose entries are all good, where the good names of its symbol table end, and its flow.
-#[derive(Drop)]
+#[derive(Clone, Copy)]
 pub struct Earlier {
     pub executable: Executable,
     pub names: u64,

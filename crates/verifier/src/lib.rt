@@ -1,4 +1,7 @@
 // The whole check of a library in document 01's order, and the reports of its executables.
+
+#![tactic(auto)]
+
 mod earlier;
 mod executables;
 mod verdict;

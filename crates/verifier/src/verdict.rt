@@ -12,20 +12,20 @@ use binary::WordAddress;
 use container::{Limits, Program, executable_count, library_fault, program_of};
 
 // Where the tables of an accepted library lie, and how many executables, words and descriptors it has.
-#[derive(Drop)]
+#[derive(Clone, Copy)]
 pub struct Library {
     pub executables: u32,
     pub program: Program,
 }
 
-#[derive(Drop)]
+#[derive(Clone, Copy)]
 pub enum Checked {
     Accepted(Library),
     Refused { number: u32, place: u32 },
 }
 
 // The report of an executable: its type, main and endmain, the ones in its input and output masks, its constants, the distinct words visited, the total.
-#[derive(Drop)]
+#[derive(Clone, Copy)]
 pub struct Report {
     pub shader_type: u8,
     pub main: WordAddress,
@@ -37,14 +37,14 @@ pub struct Report {
     pub total: u32,
 }
 
-#[derive(Drop)]
+#[derive(Clone, Copy)]
 pub enum Reported {
     Given(Report),
     Refused { number: u32, place: u32 },
 }
 
 // The verdict, and the report of each executable; zeros where there is none, and for a refused library.
-#[derive(Drop)]
+#[derive(Clone, Copy)]
 pub struct Judged {
     pub verdict: Checked,
     pub reports: [Report; 16],

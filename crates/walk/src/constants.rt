@@ -9,7 +9,7 @@ use tables::{Constant, Converted, constant_entry, constant_of};
 use verifier::{Checked, check};
 
 // A constant handed to a caller; or a refusal.
-#[derive(Drop)]
+#[derive(Clone, Copy)]
 pub enum Handed {
     Constant(Constant),
     Refused { number: u32, place: u32 },

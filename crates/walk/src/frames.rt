@@ -5,7 +5,7 @@ ghost use Rattle.walk.specs.Inside.{frame, frames_of, Room, standing, closing, l
 use crate::moves::Move;
 
 // The word where a run goes on, and how many regions are open.
-#[derive(Drop)]
+#[derive(Clone, Copy)]
 pub struct Reached {
     pub word: u64,
     pub depth: usize,
@@ -87,7 +87,7 @@ pub(crate) fn open_region(
 }
 
 // Where a run stands: the word to be fetched, how many regions are open, how many outcomes were read.
-#[derive(Drop)]
+#[derive(Clone, Copy)]
 pub struct Position {
     pub word: u64,
     pub depth: usize,

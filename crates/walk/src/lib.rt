@@ -1,4 +1,7 @@
 // The control walk of an executable, and its constants. Both calls make the whole check first.
+
+#![tactic(auto)]
+
 mod constants;
 mod engine;
 mod frames;

@@ -7,7 +7,7 @@ ghost use Rattle.walk.specs.Walk.{settings_of};
 use instruction::{Condition, Control};
 
 // What a word asks for. Addresses are sums of its DST and NUM, which have 64 bits here; `read` is how many outcomes are read then.
-#[derive(Drop)]
+#[derive(Clone, Copy)]
 pub enum Move {
     End,
     // Go on at a word.

@@ -4,7 +4,7 @@ ghost use Rattle.walk.specs.Inside.{refusal_in};
 
 use verifier::Checked;
 
-#[derive(Drop)]
+#[derive(Clone, Copy)]
 pub struct Refusal {
     pub number: u32,
     pub place: u32,

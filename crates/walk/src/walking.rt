@@ -8,7 +8,7 @@ use container::executable_of;
 use verifier::{Checked, check, words_of};
 
 // How many steps were made; or a refusal.
-#[derive(Drop)]
+#[derive(Clone, Copy)]
 pub enum Walked {
     Steps(u32),
     Refused { number: u32, place: u32 },
