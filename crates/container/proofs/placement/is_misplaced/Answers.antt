@@ -1,0 +1,43 @@
+-- `placement::is_misplaced` meets its contract: each way out is one of the definition's tests. Assumes nothing.
+use mathlib.Core.Path.{◌≡◌, sym, ap, ◌∙◌}
+use mathlib.Core.Bool.{Bool, true, false, not}
+use Prim.Native.Nat.{◌%◌}
+use lib.ListN.{length}
+use borrow.Author.Rules.{rules}
+use borrow.Author.Tests.{eq-eqb, ne_eqb}
+use Rattle.binary.specs.Ranges.{inside}
+use Rattle.binary.specs.declared.Range.{Range}
+use Rattle.container.specs.declared.placement.Table.{Table}
+use Rattle.container.specs.Placement.{table_range, misplaced}
+use Rattle.container.proofs.placement.is_misplaced.Goals.{Else-t-align-ne0}
+use Rattle.container.proofs.placement.is_misplaced.Goals as goal
+
+-- an aligned table that is not empty: whether it is inside
+module _ (b : Else-t-align-ne0) where
+  abbrev table : Table
+  table = b.args.t
+
+  left : (r : Bool) → r ≡ inside (table_range b.args.size table) (length b.args.file.now)
+      → not r ≡ misplaced b.args.align b.args.size (length b.args.file.now) table
+  unfolding misplaced
+  left r e =
+      let a = b.args in
+      rw (ne_eqb a.t.count 0 b.if-t-eq0.false, eq-eqb (a.t.offset % a.align) 0 b.if-t-align-ne0.false) (ap not e)
+
+pub returns-then-t-eq0 : goal.returns-then-t-eq0
+unfolding misplaced
+returns-then-t-eq0 c = rw (eq-eqb c.args.t.count 0 c.if-t-eq0.true)
+
+pub returns-then-t-align-ne0 : goal.returns-then-t-align-ne0
+unfolding misplaced
+returns-then-t-align-ne0 c =
+    let a = c.args in
+    rw (ne_eqb a.t.count 0 c.if-t-eq0.false, ne_eqb (a.t.offset % a.align) 0 c.if-t-align-ne0.true)
+
+pub returns-then-is_inside : goal.returns-then-is_inside
+returns-then-is_inside c =
+    left (goal.at.returns-then-is_inside c).Else-t-align-ne0 true (sym c.if-is_inside.true ∙ c.is_inside.ensures ∙ ap (λ (r : Range). inside r (length c.args.file.now)) c.range_of.ensures)
+
+pub returns-else-is_inside : goal.returns-else-is_inside
+returns-else-is_inside c =
+    left (goal.at.returns-else-is_inside c).Else-t-align-ne0 false (sym c.if-is_inside.false ∙ c.is_inside.ensures ∙ ap (λ (r : Range). inside r (length c.args.file.now)) c.range_of.ensures)

@@ -1,0 +1,6 @@
+-- `entries::fault_unless` meets its contract. Assumes nothing.
+use borrow.Author.Rules.{rules}
+use Rattle.tables.proofs.entries.fault_unless.Goals as goal
+
+pub returns-else-good : goal.returns-else-good
+returns-else-good c = rw c.if-good.false
