@@ -91,8 +91,8 @@ module _ (C : Code) (a : Allowed) (part : Part) (total : ℕ) (m₀ : List Bool)
 
         -- a word that goes on
         module _ (b : a.most < 2 ^ 32) where
-          goes_on : {costs₁ : List ℕ} → Next ≡ look_of C (rules_of a) part.opens w p E → Memory C (rules_of a) m' costs₁ depths → Standing m' costs₁ depths (p + 1) (t + w) d
-          goes_on e y =
+          stands_on : {costs₁ : List ℕ} → Next ≡ look_of C (rules_of a) part.opens w p E → Memory C (rules_of a) m' costs₁ depths → Standing m' costs₁ depths (p + 1) (t + w) d
+          stands_on e y =
               record {
                 from = omega (arith, s.from);
                 small = omega arith;
@@ -104,10 +104,10 @@ module _ (C : Code) (a : Allowed) (part : Part) (total : ℕ) (m₀ : List Bool)
               }
 
           pub standing_known : goes_on (C.control p) (get_or costs p 0) E ≡ true → Standing m' costs depths (p + 1) (t + w) d
-          standing_known k = goes_on (goes_next C (rules_of a) m part.opens w p E (get_or costs p 0) (deep_at depths p) k (s.memory.recalls p)) memory'
+          standing_known k = stands_on (goes_next C (rules_of a) m part.opens w p E (get_or costs p 0) (deep_at depths p) k (s.memory.recalls p)) memory'
 
           pub standing_next : Next ≡ look_of C (rules_of a) part.opens w p E → Standing m' (set costs p 1) depths (p + 1) (t + w) d
-          standing_next e = goes_on e (memory_next C (rules_of a) memory' part.opens w p E (omega arith) e)
+          standing_next e = stands_on e (memory_next C (rules_of a) memory' part.opens w p E (omega arith) e)
 
         pub standing_refuse : {o : Outcome} {n : ℕ} → Refuse n ≡ look_of C (rules_of a) part.opens w p E → o.scan ≡ Stop n (word_address p) → Scans C (rules_of a) part total m₀ o m' costs depths
         standing_refuse e z = stopped z (rw z (scan_refuse C (rules_of a) part p t m h l u e ∙ s.flow)) grown' long' memory'

@@ -194,7 +194,7 @@ fn mark_all(marks: &mut [bool; 512], from: u32, to: u32)
 }
 
 // Visits the part that a LOOP or a CALL at `p` asks for, and remembers what it found.
-#[cycle(descend_descend_both_enter_enter_both_scan_part)]
+#[cycle(regions)]
 fn descend(
     words: &[u32],
     allowed: Allowed,
@@ -220,7 +220,7 @@ fn descend(
 }
 
 // Enters the part that a LOOP or a CALL at `p` asks for. Where what is remembered of it fits, its cost is added and it is not visited again: it would meet no fault, and its words are marked.
-#[cycle(descend_descend_both_enter_enter_both_scan_part)]
+#[cycle(regions)]
 fn enter(
     words: &[u32],
     allowed: Allowed,
@@ -246,7 +246,7 @@ fn enter(
 // Visits the two parts that an IF at `p` asks for. If they have no tests they cost as many visits as they have words, open nothing, and are counted and marked at once.
 // Else they are scanned, and what was found is remembered where no LOOP is open in the main or called region: with one around, a BREAK passes in
 // them. Nothing is lost by that: a LOOP's body is remembered whole.
-#[cycle(descend_descend_both_enter_enter_both_scan_part)]
+#[cycle(regions)]
 fn descend_both(
     words: &[u32],
     allowed: Allowed,
@@ -294,7 +294,7 @@ fn descend_both(
 }
 
 // As `enter`, for an IF.
-#[cycle(descend_descend_both_enter_enter_both_scan_part)]
+#[cycle(regions)]
 fn enter_both(
     words: &[u32],
     allowed: Allowed,
@@ -320,7 +320,7 @@ fn enter_both(
 
 // Counts, marks and tests each word of a region, and goes into the parts that it asks for. `total` is what was counted before. A jump's target is searched once,
 // however often the jump is visited.
-#[cycle(descend_descend_both_enter_enter_both_scan_part)]
+#[cycle(regions)]
 pub(crate) fn scan_part(
     words: &[u32],
     allowed: Allowed,

@@ -1,0 +1,16 @@
+-- `entry::count_marks` meets its contract. Assumes nothing.
+use mathlib.Core.Path.{◌≡◌, refl, ap, ◌∙◌}
+use mathlib.Core.Bool.{false}
+use Prim.Native.Nat.{◌-◌, ◌≤◌}
+use native.Mathlib.Omega.{arith}
+use lib.ListN.{get_or}
+use borrow.Author.Rules.{rules}
+use Rattle.flow.specs.Inside.{count_to}
+use Rattle.flow.proofs.Marks.{bool_byte_le, count_next}
+use Rattle.flow.proofs.entry.count_marks.Given as goal
+
+abbrev pub invariant-loop-i : goal.invariant-loop-i
+invariant-loop-i l = (l.count ≤ l.i) × (l.i ≤ l.words) × (l.count ≡ count_to l.i (λ k. get_or l.marks k false))
+
+abbrev pub decreases-loop-i : goal.decreases-loop-i
+decreases-loop-i l = l.words - l.i

@@ -1,0 +1,15 @@
+-- `scan::no_tests` meets its contract: all are plain exactly if all from here on are. Assumes nothing.
+use mathlib.Core.Path.{◌≡◌, refl, sym, ap, ◌∙◌}
+use Prim.Native.Nat.{◌-◌}
+use borrow.Author.Rules.{rules}
+use Rattle.flow.specs.Flow.{code_of}
+use Rattle.flow.specs.Inside.{no_tests, goes_on}
+use Rattle.flow.proofs.NoTests.{untested_not, untested_next, untested_none}
+use Rattle.flow.proofs.Tests.{not_bad, not_true}
+use Rattle.flow.proofs.scan.no_tests.Given as goal
+
+abbrev pub invariant-loop-p : goal.invariant-loop-p
+invariant-loop-p l = no_tests (code_of l.words 0) l.p (l.to - l.p) ≡ no_tests (code_of l.words 0) l.from (l.to - l.from)
+
+abbrev pub decreases-loop-p : goal.decreases-loop-p
+decreases-loop-p l = l.to - l.p
