@@ -1,0 +1,6 @@
+-- `verdict::refused` meets its contract. Assumes nothing.
+use borrow.Author.Rules.{rules}
+use Rattle.verifier.proofs.verdict.refused.Goals as goal
+
+pub returns : goal.returns
+returns c = rw c.no_report.ensures

@@ -1,0 +1,18 @@
+-- `words::load_words` meets its contract. Before each turn the words below p are there. Assumes nothing.
+use mathlib.Core.Path.{◌≡◌, ap, ◌∙◌}
+use Prim.Native.Nat.{◌+◌, ◌*◌, ◌-◌, ◌≤◌, ◌<◌, min}
+use native.Mathlib.Omega.{arith}
+use lib.ListN.{length}
+use borrow.Author.Rules.{rules}
+use borrow.Author.Tests.{leb-true}
+use Rattle.binary.specs.Bytes.{u32_at}
+use Rattle.binary.specs.declared.ByteOffset.{ByteOffset}
+use Rattle.verifier.specs.Lists.{filled}
+use Rattle.verifier.proofs.Lists.{filled_none, filled_next, table_drop}
+use Rattle.verifier.proofs.words.load_words.Given as goal
+
+abbrev pub invariant-loop-p : goal.invariant-loop-p
+invariant-loop-p l = (l.p ≤ l.count) × (l.words ≡ filled (λ k. u32_at l.bytes (k * 4)) 0 512 l.p 0)
+
+abbrev pub decreases-loop-p : goal.decreases-loop-p
+decreases-loop-p l = l.count - l.p
