@@ -22,7 +22,6 @@ use Rattle.tables.specs.Constants.{entry_of, constant_if, convert_of, constant_f
 use Rattle.tables.specs.Entries.{good_label, label_fault, good_output, output_fault, in_one_kind, good_uniform, uniform_fault}
 use Rattle.tables.specs.Float24.{good_float24, f32_bits}
 use Rattle.tables.specs.Names.{meets0, names_end}
-use Rattle.tables.specs.declared.constants.Constant.{Constant}
 use Rattle.tables.specs.declared.constants.Constant.TheVariants.{Flag, Bytes, Vector}
 use Rattle.tables.specs.declared.constants.Converted.{Converted}
 use Rattle.tables.specs.declared.constants.Converted.TheVariants as converted

@@ -1,10 +1,7 @@
 -- `descriptors_of` meets its contract. Before each turn the descriptors below p are there. Assumes nothing.
-use mathlib.Core.Path.{◌≡◌, ◌∙◌}
-use Prim.Native.Nat.{◌+◌, ◌*◌, ◌-◌, ◌≤◌, ◌<◌}
-use native.Mathlib.Omega.{arith}
-use borrow.Author.Rules.{rules}
+use mathlib.Core.Path.{◌≡◌}
+use Prim.Native.Nat.{◌*◌, ◌-◌, ◌≤◌}
 use Rattle.binary.specs.Bytes.{u32_at}
-use Rattle.verifier.proofs.Lists.{filled_none, filled_next, table_drop}
 use Rattle.verifier.specs.Lists.{filled}
 use Rattle.listing.proofs.descriptors_of.Given as goal
 

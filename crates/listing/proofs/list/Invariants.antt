@@ -1,16 +1,11 @@
 -- `list` meets its contract. Before each turn the lines below p are written. Assumes nothing.
-use mathlib.Core.Path.{◌≡◌, refl, sym, ap, ◌∙◌}
+use mathlib.Core.Path.{◌≡◌}
 use mathlib.Core.List.{List}
 use Prim.Native.Nat.{ℕ, ◌-◌, ◌≤◌}
-use native.Mathlib.Omega.{arith}
-use lib.ListN.{length, take, length-take}
-use lib.Seq.{sets, length-sets}
-use borrow.Author.Rules.{rules}
+use lib.ListN.{take}
+use lib.Seq.{sets}
 use Rattle.container.specs.declared.placement.Table.{Table}
 use Rattle.listing.specs.Listing.{records_of}
-use Rattle.listing.proofs.Answers.{line_wide, list_refused, list_short, list_done, descriptors_are, descriptors_length}
-use Rattle.listing.proofs.Laws.{part_wide, record_next}
-use Rattle.verifier.proofs.Taken.{taken}
 use Rattle.text.specs.Records.{record_of, line_text}
 use Rattle.verifier.specs.Words.{word_at}
 use Rattle.listing.proofs.list.Given as goal

@@ -1,9 +1,8 @@
 -- `summarize` meets its contract. Before each turn the lines below i are written. Assumes nothing.
 use mathlib.Core.Path.{◌≡◌, refl, ap, ◌∙◌}
-use Prim.Native.Nat.{◌-◌, ◌≤◌}
 use native.Mathlib.Omega.{arith}
 use lib.ListN.{length}
-use lib.Seq.{sets, length-sets}
+use lib.Seq.{length-sets}
 use borrow.Author.Rules.{rules}
 use Rattle.listing.specs.Listing.{records_of, summary_at}
 use Rattle.listing.proofs.Answers.{report_wide, summary_refused, summary_short, summary_done, verdict_is, report_is}

@@ -1,16 +1,8 @@
 -- `summarize` meets its contract. Before each turn the lines below i are written. Assumes nothing.
-use mathlib.Core.Path.{◌≡◌, refl, ap, ◌∙◌}
+use mathlib.Core.Path.{◌≡◌}
 use Prim.Native.Nat.{◌-◌, ◌≤◌}
-use native.Mathlib.Omega.{arith}
-use lib.ListN.{length}
-use lib.Seq.{sets, length-sets}
-use borrow.Author.Rules.{rules}
+use lib.Seq.{sets}
 use Rattle.listing.specs.Listing.{records_of, summary_at}
-use Rattle.listing.proofs.Answers.{report_wide, summary_refused, summary_short, summary_done, verdict_is, report_is}
-use Rattle.listing.proofs.Laws.{part_wide, record_next}
-use Rattle.verifier.proofs.Taken.{taken}
-use Rattle.text.specs.Records.{record_of, report_text}
-use Rattle.verifier.specs.Executables.{no_report, report_of}
 use Rattle.container.specs.Program.{program_of}
 use Rattle.listing.proofs.summarize.Given as goal
 

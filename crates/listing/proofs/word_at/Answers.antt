@@ -1,7 +1,6 @@
 -- `word_at` meets its contract. Assumes nothing.
 use mathlib.Core.Path.{◌∙◌}
 use Prim.Native.Nat.{◌*◌}
-use borrow.Author.Rules.{rules}
 use Rattle.verifier.proofs.Lists.{u32_drop}
 use Rattle.listing.proofs.word_at.Goals as goal
 

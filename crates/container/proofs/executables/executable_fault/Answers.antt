@@ -2,7 +2,6 @@
 use mathlib.Core.Path.{◌≡◌, sym, ap, ◌∙◌}
 use Prim.Native.Nat.{ℕ}
 use lib.ListN.{length}
-use borrow.Author.Rules.{rules}
 use borrow.Author.Tests.{eq-eqb, ne_eqb, lt-ltb, le-ltb}
 use Rattle.binary.specs.Bytes.{u32_at}
 use Rattle.container.specs.Executable.{executable_base, executable_of, misplaced_section, bad_entry, misplaced_tables, overlapped_by_tables, executable_fault}

@@ -1,5 +1,4 @@
 -- `executables::executable_of` meets its contract. Assumes nothing.
-use borrow.Author.Rules.{rules}
 use Rattle.container.proofs.executables.executable_of.Goals as goal
 
 pub returns : goal.returns

@@ -1,6 +1,5 @@
 -- `executables::has_misplaced_tables` meets its contract. Assumes nothing.
 use mathlib.Core.Path.{sym, ◌∙◌}
-use borrow.Author.Rules.{rules}
 use Rattle.container.specs.Executable.{misplaced_tables}
 use Rattle.container.proofs.executables.has_misplaced_tables.Goals as goal
 

@@ -1,6 +1,5 @@
 -- `executables::is_misplaced_section` meets its contract. Assumes nothing.
 use mathlib.Core.Path.{sym, ◌∙◌}
-use borrow.Author.Rules.{rules}
 use borrow.Author.Tests.{eq-eqb, ne_eqb}
 use Rattle.container.specs.Executable.{misplaced_section}
 use Rattle.container.proofs.executables.is_misplaced_section.Goals as goal

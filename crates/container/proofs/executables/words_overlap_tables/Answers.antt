@@ -1,6 +1,5 @@
 -- `executables::words_overlap_tables` meets its contract. Assumes nothing.
 use mathlib.Core.Path.{sym, ◌∙◌}
-use borrow.Author.Rules.{rules}
 use Rattle.container.specs.Executable.{overlapped_by_tables}
 use Rattle.container.proofs.executables.words_overlap_tables.Goals as goal
 

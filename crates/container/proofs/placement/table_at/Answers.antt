@@ -1,5 +1,4 @@
 -- `placement::table_at` meets its contract. Assumes nothing.
-use borrow.Author.Rules.{rules}
 use Rattle.container.proofs.placement.table_at.Goals as goal
 
 pub returns : goal.returns

@@ -1,6 +1,5 @@
 -- `placement::words_meet` meets its contract. Assumes nothing.
 use mathlib.Core.Path.{ap, ◌∙◌}
-use borrow.Author.Rules.{rules}
 use Rattle.binary.specs.Ranges.{share}
 use Rattle.binary.specs.declared.Range.{Range}
 use Rattle.container.specs.Placement.{words_meet}

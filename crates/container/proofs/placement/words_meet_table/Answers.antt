@@ -1,6 +1,5 @@
 -- `placement::words_meet_table` meets its contract. Assumes nothing.
 use mathlib.Core.Path.{ap, ◌∙◌}
-use borrow.Author.Rules.{rules}
 use Rattle.container.specs.Placement.{words_meet}
 use Rattle.container.proofs.placement.words_meet_table.Goals as goal
 

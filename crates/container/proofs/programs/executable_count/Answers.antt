@@ -1,5 +1,4 @@
 -- `programs::executable_count` meets its contract. Assumes nothing.
-use borrow.Author.Rules.{rules}
 use Rattle.container.proofs.programs.executable_count.Goals as goal
 
 pub returns : goal.returns

@@ -1,6 +1,5 @@
 -- `programs::has_misplaced_table` meets its contract. Assumes nothing.
 use mathlib.Core.Path.{sym, ◌∙◌}
-use borrow.Author.Rules.{rules}
 use Rattle.container.specs.Program.{misplaced_table}
 use Rattle.container.proofs.programs.has_misplaced_table.Goals as goal
 

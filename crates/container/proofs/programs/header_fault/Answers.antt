@@ -3,7 +3,6 @@ use mathlib.Core.Path.{◌≡◌, sym, ◌∙◌}
 use mathlib.Core.Bool.{true, false}
 use lib.Dec.{eqb, ltb}
 use lib.ListN.{length}
-use borrow.Author.Rules.{rules}
 use borrow.Author.Tests.{eq-eqb, ne_eqb, lt-ltb, le-ltb}
 use Rattle.container.specs.Program.{DVLB, named, count_of, header_fault}
 use Rattle.container.proofs.programs.header_fault.Goals.{Else-file-gt65536, Else-file-lt8, Else-n-eq0, Else-u32_at-ne-DVLB}

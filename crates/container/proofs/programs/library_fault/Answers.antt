@@ -1,6 +1,5 @@
 -- `programs::library_fault` meets its contract. Assumes nothing.
 use mathlib.Core.Path.{sym, ◌∙◌}
-use borrow.Author.Rules.{rules}
 use Rattle.container.specs.Program.{library_fault}
 use Rattle.container.proofs.programs.library_fault.Goals as goal
 

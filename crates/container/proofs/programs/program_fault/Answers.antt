@@ -4,7 +4,6 @@ use mathlib.Core.Bool.{true, false}
 use Prim.Native.Nat.{ℕ, ◌+◌}
 use lib.Dec.{ltb}
 use lib.ListN.{length}
-use borrow.Author.Rules.{rules}
 use borrow.Author.Tests.{eq-eqb, ne_eqb, lt-ltb, le-ltb}
 use Rattle.binary.specs.Bytes.{u32_at}
 use Rattle.container.specs.Program.{DVLP, named, program_base, program_of, bad_sizes, misplaced_table, overlapped_words, program_fault}

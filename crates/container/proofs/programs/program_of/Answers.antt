@@ -1,5 +1,4 @@
 -- `programs::program_of` meets its contract. Assumes nothing.
-use borrow.Author.Rules.{rules}
 use Rattle.container.proofs.programs.program_of.Goals as goal
 
 pub returns : goal.returns

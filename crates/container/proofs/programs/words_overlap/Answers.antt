@@ -1,6 +1,5 @@
 -- `programs::words_overlap` meets its contract. Assumes nothing.
 use mathlib.Core.Path.{sym, ◌∙◌}
-use borrow.Author.Rules.{rules}
 use Rattle.container.specs.Program.{overlapped_words}
 use Rattle.container.proofs.programs.words_overlap.Goals as goal
 

@@ -1,10 +1,8 @@
 -- `entry::count_marks` meets its contract. Assumes nothing.
 use mathlib.Core.Path.{◌≡◌, refl, ap, ◌∙◌}
 use mathlib.Core.Bool.{false}
-use Prim.Native.Nat.{◌-◌, ◌≤◌}
 use native.Mathlib.Omega.{arith}
 use lib.ListN.{get_or}
-use borrow.Author.Rules.{rules}
 use Rattle.flow.specs.Inside.{count_to}
 use Rattle.flow.proofs.Marks.{bool_byte_le, count_next}
 use Rattle.flow.proofs.entry.count_marks.Goals as goal

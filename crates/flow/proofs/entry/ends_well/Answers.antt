@@ -1,6 +1,5 @@
 -- `entry::ends_well` meets its contract: each arm is the last word's control. Assumes nothing.
 use mathlib.Core.Path.{sym, ◌∙◌}
-use borrow.Author.Rules.{rules}
 use Rattle.flow.proofs.entry.ends_well.Goals as goal
 
 pub returns-in-End : goal.returns-in-End

@@ -1,6 +1,5 @@
 -- `look::look_at` meets its contract: each arm is the word's control. Assumes nothing.
 use mathlib.Core.Path.{◌≡◌, refl, sym, ◌∙◌}
-use borrow.Author.Rules.{rules}
 use lib.Dec.{leb}
 use Rattle.answer.specs.Faults.{fault_if, or_else}
 use Rattle.answer.specs.declared.Fault.{Fault}

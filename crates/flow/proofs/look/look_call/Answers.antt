@@ -1,5 +1,4 @@
 -- `look::look_call` meets its contract. Assumes nothing.
-use borrow.Author.Rules.{rules}
 use borrow.Author.Tests.{le-leb, lt-leb}
 use Rattle.flow.specs.Inside.{look_call}
 use Rattle.flow.proofs.look.look_call.Goals as goal

@@ -1,6 +1,5 @@
 -- `look::look_jump` meets its contract. Assumes nothing.
 use mathlib.Core.Path.{sym, ◌∙◌}
-use borrow.Author.Rules.{rules}
 use borrow.Author.Tests.{lt-ltb, le-ltb}
 use Rattle.flow.specs.Inside.{look_jump}
 use Rattle.flow.proofs.look.look_jump.Goals as goal

@@ -1,5 +1,4 @@
 -- `own::after_if` meets its contract. Assumes nothing.
-use borrow.Author.Rules.{rules}
 use borrow.Author.Tests.{le-leb, lt-leb}
 use Rattle.flow.proofs.own.after_if.Goals as goal
 

@@ -1,6 +1,5 @@
 -- `own::after_loop` meets its contract. Assumes nothing.
 use native.Mathlib.Omega.{arith}
-use borrow.Author.Rules.{rules}
 use borrow.Author.Tests.{le-leb, lt-leb, lt-ltb, le-ltb}
 use Prim.Native.Nat.{◌+◌}
 use Rattle.flow.proofs.own.after_loop.Goals as goal

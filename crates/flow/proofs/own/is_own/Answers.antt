@@ -1,9 +1,7 @@
 -- `own::is_own` meets its contract: the word is an own word from the start on exactly if it is one from here on. Assumes nothing.
-use mathlib.Core.Path.{◌≡◌, refl, sym, ◌∙◌}
-use Prim.Native.Nat.{ℕ, ◌-◌, ◌<◌}
+use mathlib.Core.Path.{◌≡◌, sym, ◌∙◌}
+use Prim.Native.Nat.{ℕ, ◌<◌}
 use native.Mathlib.Omega.{arith}
-use borrow.Author.Rules.{rules}
-use borrow.Author.Tests.{not-true}
 use Rattle.flow.specs.Flow.{code_of}
 use Rattle.flow.specs.Inside.{after_of}
 use Rattle.flow.specs.Own.{own_words, has}

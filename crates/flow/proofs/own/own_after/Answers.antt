@@ -1,6 +1,5 @@
 -- `own::own_after` meets its contract: each arm is the word's control. Assumes nothing.
 use mathlib.Core.Path.{sym, ◌∙◌}
-use borrow.Author.Rules.{rules}
 use Rattle.flow.proofs.own.own_after.Goals as goal
 
 pub returns-in-If : goal.returns-in-If

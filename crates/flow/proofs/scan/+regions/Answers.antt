@@ -1,18 +1,18 @@
 -- `scan::descend`, `scan::enter`, the same of an IF, and `scan::scan_part` meet their contracts: a region is scanned own word by own word, or remembered. Assumes nothing.
 use mathlib.Core.Path.{refl, sym, ap, ◌∙◌}
 use mathlib.Core.Bool.{not}
-use Prim.Native.Nat.{ℕ, ◌+◌, ◌*◌, ◌-◌, ◌<◌, max}
+use Prim.Native.Nat.{ℕ, ◌-◌, ◌<◌, max}
 use native.Mathlib.Nat.{le-max_left, le-max_right, max-le}
 use native.Mathlib.Omega.{arith}
 use borrow.Author.Rules.{rules}
 use lib.ListN.{get_or}
 use Rattle.flow.specs.Flow.{code_of}
-use Rattle.flow.specs.Inside.{rules_of, after_part, goes_on, passed_over}
+use Rattle.flow.specs.Inside.{rules_of, goes_on, passed_over}
 use Rattle.flow.specs.Visits.{size}
 use Rattle.flow.proofs.Looks.{light, heavy, later, fits_at, weighs_at}
 use Rattle.flow.proofs.NoTests.{none, untested_both}
 use Rattle.flow.proofs.Remembering.{asks_one, asks_both, fits_known}
-use Rattle.flow.proofs.Standing.{Standing, standing_first, standing_end, standing_27, standing_known, standing_next, standing_refuse, one_stopped, one_passed, two_stopped, two_passed, ready_part, ready_second, few_beyond, recalled_scans, remembered_scans, recalled_both_scans, both_stopped, both_stopped_2, left_both, both_passed, both_remembered}
+use Rattle.flow.proofs.Standing.{standing_first, standing_end, standing_27, standing_known, standing_next, standing_refuse, one_stopped, one_passed, two_stopped, two_passed, ready_part, ready_second, few_beyond, recalled_scans, remembered_scans, recalled_both_scans, both_stopped, both_stopped_2, left_both, both_passed, both_remembered}
 use Rattle.flow.proofs.Tests.{both, not_true}
 use Rattle.flow.proofs.scan.+regions.Goals as goal
 

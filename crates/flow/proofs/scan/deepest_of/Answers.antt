@@ -1,5 +1,4 @@
 -- `scan::deepest_of` meets its contract. Assumes nothing.
-use borrow.Author.Rules.{rules}
 use Rattle.flow.proofs.scan.deepest_of.Goals as goal
 
 pub returns : goal.returns

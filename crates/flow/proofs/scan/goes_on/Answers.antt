@@ -1,4 +1,3 @@
-use borrow.Author.Rules.{rules}
 use Rattle.flow.proofs.scan.goes_on.Goals as goal
 
 -- src/scan.rt:158:1

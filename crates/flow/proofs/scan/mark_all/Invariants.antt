@@ -1,9 +1,7 @@
 -- `scan::mark_all` meets its contract: what is marked, and from here on, is all. Assumes nothing.
-use mathlib.Core.Path.{◌≡◌, refl, sym, ◌∙◌}
+use mathlib.Core.Path.{◌≡◌}
 use Prim.Native.Nat.{◌-◌}
-use borrow.Author.Rules.{rules}
 use Rattle.flow.specs.Inside.{mark_all}
-use Rattle.flow.proofs.NoTests.{mark_next, mark_none}
 use Rattle.flow.proofs.scan.mark_all.Given as goal
 
 abbrev pub invariant-loop-p : goal.invariant-loop-p

@@ -1,11 +1,8 @@
 -- `scan::no_tests` meets its contract: all are plain exactly if all from here on are. Assumes nothing.
-use mathlib.Core.Path.{◌≡◌, refl, sym, ap, ◌∙◌}
-use Prim.Native.Nat.{◌-◌}
-use borrow.Author.Rules.{rules}
+use mathlib.Core.Path.{refl, sym, ap, ◌∙◌}
 use Rattle.flow.specs.Flow.{code_of}
-use Rattle.flow.specs.Inside.{no_tests, goes_on}
+use Rattle.flow.specs.Inside.{goes_on}
 use Rattle.flow.proofs.NoTests.{untested_not, untested_next, untested_none}
-use Rattle.flow.proofs.Tests.{not_bad, not_true}
 use Rattle.flow.proofs.scan.no_tests.Goals as goal
 
 pub returns-then-not-goes_on : goal.returns-then-not-goes_on

@@ -1,11 +1,8 @@
 -- `scan::no_tests` meets its contract: all are plain exactly if all from here on are. Assumes nothing.
-use mathlib.Core.Path.{◌≡◌, refl, sym, ap, ◌∙◌}
+use mathlib.Core.Path.{◌≡◌}
 use Prim.Native.Nat.{◌-◌}
-use borrow.Author.Rules.{rules}
 use Rattle.flow.specs.Flow.{code_of}
-use Rattle.flow.specs.Inside.{no_tests, goes_on}
-use Rattle.flow.proofs.NoTests.{untested_not, untested_next, untested_none}
-use Rattle.flow.proofs.Tests.{not_bad, not_true}
+use Rattle.flow.specs.Inside.{no_tests}
 use Rattle.flow.proofs.scan.no_tests.Given as goal
 
 abbrev pub invariant-loop-p : goal.invariant-loop-p

@@ -1,6 +1,5 @@
 -- `decoding::decode` meets its contract: what the arm of a format gives is what the definition gives at a word of that format. Assumes nothing.
 use mathlib.Core.Path.{◌≡◌, refl, sym, ap, ◌∙◌}
-use borrow.Author.Rules.{rules}
 use Rattle.answer.specs.Answers.{Answer, given}
 use Rattle.instruction.specs.Operations.{format_of}
 use Rattle.instruction.specs.Words.{decode_as, decode_of}

@@ -1,6 +1,5 @@
 -- `encoding::encode` meets its contract: each arm hands over its variant's number, format and parts. Assumes nothing.
-use mathlib.Core.Path.{refl, sym, ap, ◌∙◌}
-use borrow.Author.Rules.{rules}
+use mathlib.Core.Path.{sym, ap, ◌∙◌}
 use Rattle.instruction.specs.Words.{encode_of}
 use Rattle.instruction.proofs.encoding.encode.Goals as goal
 

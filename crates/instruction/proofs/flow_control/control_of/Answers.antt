@@ -1,7 +1,6 @@
 -- `flow_control::control_of` meets its contract: the definition gives the arm's value at each opcode of its range. Assumes nothing.
 use mathlib.Core.Path.{refl}
 use native.Mathlib.Omega.{arith}
-use borrow.Author.Rules.{rules}
 use Rattle.bits.proofs.Laws.{field_lt}
 use Rattle.instruction.specs.Control.{control, control_of}
 use Rattle.instruction.specs.Operations.{format_of, operations}

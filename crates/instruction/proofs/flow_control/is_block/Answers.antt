@@ -1,5 +1,4 @@
 -- `flow_control::is_block` meets its contract. Assumes nothing.
-use borrow.Author.Rules.{rules}
 use Rattle.instruction.proofs.ByOpcode.{block_of}
 use Rattle.instruction.proofs.flow_control.is_block.Goals as goal
 

@@ -1,7 +1,6 @@
 -- `operand::descriptor_of` meets its contract: the definition gives the arm's value at each opcode of its range. Assumes nothing.
 use mathlib.Core.Path.{refl, ap, ◌∙◌}
 use native.Mathlib.Omega.{arith}
-use borrow.Author.Rules.{rules}
 use Rattle.bits.proofs.Laws.{field_lt}
 use Rattle.instruction.specs.Operands.{descriptor, descriptor_of}
 use Rattle.instruction.specs.Operations.{format_of, operations}

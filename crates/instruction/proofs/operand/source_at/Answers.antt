@@ -1,5 +1,4 @@
 -- `operand::source_at` meets its contract. Assumes nothing.
-use borrow.Author.Rules.{rules}
 use Rattle.instruction.proofs.operand.source_at.Goals as goal
 
 pub returns : goal.returns

@@ -1,5 +1,4 @@
 -- `operand::takes_any_fields` meets its contract. Assumes nothing.
-use borrow.Author.Rules.{rules}
 use Rattle.instruction.proofs.ByOpcode.{any_fields_of}
 use Rattle.instruction.proofs.operand.takes_any_fields.Goals as goal
 

@@ -1,9 +1,9 @@
 -- `operation::control_format` meets its contract: each arm's numbers are ranges, and the list has the arm's format at each number of them. Assumes nothing.
-use mathlib.Core.Logic.{⊎_elim, inl, inr}
+use mathlib.Core.Logic.{⊎_elim}
 use native.Mathlib.Omega.{arith}
 use Rattle.instruction.specs.Operations.{format_of, operations}
 use Rattle.instruction.specs.declared.operation.Format.TheVariants.{F0, F2, F3, F4}
-use Rattle.instruction.proofs.Formats.{apart, beyond, format_in}
+use Rattle.instruction.proofs.Formats.{apart, format_in}
 use Rattle.instruction.proofs.operation.control_format.Goals as goal
 
 pub returns-in-43 : goal.returns-in-43

@@ -2,7 +2,6 @@
 use mathlib.Core.Path.{sym, ◌∙◌}
 use mathlib.Core.Logic.{⊎_elim}
 use native.Mathlib.Omega.{arith}
-use borrow.Author.Rules.{rules}
 use Rattle.instruction.specs.Operations.{format_of, entry_format, operations}
 use Rattle.instruction.specs.declared.operation.Format.TheVariants.{Unlisted}
 use Rattle.instruction.proofs.Formats.{apart, entry_in, format_past, entry_past}

@@ -1,6 +1,5 @@
 -- `operation::format_of` meets its contract: in each range of opcodes the format is that of the range's part, or the one that the list has at each of its numbers. Assumes nothing.
 use mathlib.Core.Path.{sym}
-use borrow.Author.Rules.{rules}
 use native.Mathlib.Omega.{arith}
 use Rattle.instruction.specs.Operations.{format_of, operations}
 use Rattle.instruction.specs.declared.operation.Format.TheVariants.{F1c, F5, F5i}

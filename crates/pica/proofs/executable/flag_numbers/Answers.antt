@@ -3,7 +3,6 @@ use mathlib.Core.Path.{◌≡◌, refl}
 use mathlib.Core.Bool.{Bool, true, false}
 use mathlib.Core.List.{[], ◌∷◌}
 use mir.Val.{bool_byte}
-use borrow.Author.Rules.{rules}
 use Rattle.pica.specs.Executables.{flag_numbers}
 use Rattle.pica.proofs.executable.flag_numbers.Goals as goal
 

@@ -1,5 +1,4 @@
 -- `executable::pica_constant` meets its contract. Assumes nothing.
-use borrow.Author.Rules.{rules}
 use Rattle.pica.proofs.Answers.{handed_numbers, constant_handed, constant_refused}
 use Rattle.pica.proofs.executable.pica_constant.Goals as goal
 

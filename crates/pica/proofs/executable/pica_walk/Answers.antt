@@ -1,5 +1,4 @@
 -- `executable::pica_walk` meets its contract. Assumes nothing.
-use borrow.Author.Rules.{rules}
 use Rattle.pica.proofs.Answers.{walk_done, walk_refused}
 use Rattle.pica.proofs.executable.pica_walk.Goals as goal
 

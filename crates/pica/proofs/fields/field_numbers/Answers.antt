@@ -1,6 +1,5 @@
 -- `fields::field_numbers` meets its contract. Each arm gives its variant's numbers. Assumes nothing.
 use mathlib.Core.Path.{sym, ap, ◌∙◌}
-use borrow.Author.Rules.{rules}
 use Rattle.pica.specs.Words.{numbered_by}
 use Rattle.pica.proofs.fields.field_numbers.Goals as goal
 

@@ -1,6 +1,5 @@
 -- `fields::fields_of` meets its contract: each arm is the test of its number. Assumes nothing.
 use native.Mathlib.Omega.{arith}
-use borrow.Author.Rules.{rules}
 use borrow.Author.Tests.{ne_eqb}
 use Rattle.pica.proofs.fields.fields_of.Goals as goal
 

@@ -1,11 +1,8 @@
 -- `fields::zeros_from` meets its contract. Before each turn the numbers below i are zeros. Assumes nothing.
-use mathlib.Core.Path.{◌≡◌, refl, sym, ◌∙◌}
+use mathlib.Core.Path.{◌≡◌}
 use Prim.Native.Nat.{◌-◌}
-use native.Mathlib.Omega.{arith}
 use lib.ListN.{take, drop}
-use borrow.Author.Rules.{rules}
 use Rattle.pica.specs.Words.{zeros}
-use Rattle.pica.proofs.Laws.{zero_here, not_zero, none_left}
 use Rattle.pica.proofs.fields.zeros_from.Given as goal
 
 abbrev pub invariant-loop-i : goal.invariant-loop-i

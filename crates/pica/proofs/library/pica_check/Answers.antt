@@ -1,5 +1,4 @@
 -- `library::pica_check` meets its contract. Assumes nothing.
-use borrow.Author.Rules.{rules}
 use Rattle.pica.proofs.Answers.{check_accepted, check_refused}
 use Rattle.pica.proofs.library.pica_check.Goals as goal
 

@@ -1,6 +1,5 @@
 -- `library::pica_list` meets its contract. Assumes nothing.
 use mathlib.Core.Path.{subst}
-use borrow.Author.Rules.{rules}
 use Rattle.pica.specs.Replies.{Answered}
 use Rattle.pica.proofs.library.pica_list.Goals as goal
 

@@ -1,5 +1,4 @@
 -- `library::pica_report` meets its contract. Assumes nothing.
-use borrow.Author.Rules.{rules}
 use Rattle.pica.proofs.Answers.{report_given, report_refused}
 use Rattle.pica.proofs.library.pica_report.Goals as goal
 

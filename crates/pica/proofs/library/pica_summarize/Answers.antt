@@ -1,6 +1,5 @@
 -- `library::pica_summarize` meets its contract. Assumes nothing.
 use mathlib.Core.Path.{subst}
-use borrow.Author.Rules.{rules}
 use Rattle.pica.specs.Replies.{Answered}
 use Rattle.pica.proofs.library.pica_summarize.Goals as goal
 

@@ -1,6 +1,5 @@
 -- `library::written_answer` meets its contract. Assumes nothing.
 use mathlib.Core.Path.{sym, ap, subst}
-use borrow.Author.Rules.{rules}
 use Rattle.listing.specs.Listing.{written_as}
 use Rattle.pica.specs.Replies.{Answered}
 use Rattle.pica.proofs.library.written_answer.Goals as goal

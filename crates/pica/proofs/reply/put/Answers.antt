@@ -1,9 +1,8 @@
 -- `reply::put` meets its contract. Before each turn the numbers below i are written. Assumes nothing.
-use mathlib.Core.Path.{◌≡◌, refl, ap, ◌∙◌}
-use Prim.Native.Nat.{◌-◌, ◌≤◌}
+use mathlib.Core.Path.{refl, ap, ◌∙◌}
 use native.Mathlib.Omega.{arith}
 use lib.ListN.{length, take}
-use lib.Seq.{sets, length-sets, take_all}
+use lib.Seq.{length-sets, take_all}
 use borrow.Author.Rules.{rules}
 use Rattle.pica.proofs.Laws.{put_next}
 use Rattle.pica.proofs.reply.put.Goals as goal

@@ -1,11 +1,8 @@
 -- `reply::put` meets its contract. Before each turn the numbers below i are written. Assumes nothing.
-use mathlib.Core.Path.{◌≡◌, refl, ap, ◌∙◌}
+use mathlib.Core.Path.{◌≡◌}
 use Prim.Native.Nat.{◌-◌, ◌≤◌}
-use native.Mathlib.Omega.{arith}
 use lib.ListN.{length, take}
-use lib.Seq.{sets, length-sets, take_all}
-use borrow.Author.Rules.{rules}
-use Rattle.pica.proofs.Laws.{put_next}
+use lib.Seq.{sets}
 use Rattle.pica.proofs.reply.put.Given as goal
 
 abbrev pub invariant-loop-i : goal.invariant-loop-i

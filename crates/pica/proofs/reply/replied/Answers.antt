@@ -1,7 +1,6 @@
 -- `reply::replied` meets its contract. Assumes nothing.
 use mathlib.Core.Path.{◌∙◌}
 use lib.ListN.{length}
-use borrow.Author.Rules.{rules}
 use borrow.Author.Tests.{lt-ltb, le-ltb}
 use Rattle.pica.proofs.reply.replied.Goals as goal
 

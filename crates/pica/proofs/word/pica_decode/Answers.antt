@@ -1,6 +1,5 @@
 -- `word::pica_decode` meets its contract. Assumes nothing.
 use mathlib.Core.Path.{refl, sym, ap, ◌∙◌}
-use borrow.Author.Rules.{rules}
 use Rattle.answer.specs.Answers.{given, map_answer}
 use Rattle.instruction.specs.Words.{decoded, decode_of}
 use Rattle.pica.specs.Replies.{reply}

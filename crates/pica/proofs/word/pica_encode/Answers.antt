@@ -1,6 +1,5 @@
 -- `word::pica_encode` meets its contract. Assumes nothing.
 use mathlib.Core.Path.{ap, ◌∙◌}
-use borrow.Author.Rules.{rules}
 use Rattle.instruction.specs.Words.{encoded}
 use Rattle.pica.proofs.Answers.{answered}
 use Rattle.pica.proofs.Words.{no_format, too_few, surplus, whole}

@@ -1,5 +1,4 @@
 -- `constants::constant_entry` meets its contract. Assumes nothing.
-use borrow.Author.Rules.{rules}
 use Rattle.tables.proofs.constants.constant_entry.Goals as goal
 
 pub returns : goal.returns

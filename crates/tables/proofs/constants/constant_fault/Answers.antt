@@ -1,7 +1,6 @@
 -- `constants::constant_fault` meets its contract. Assumes nothing.
 use mathlib.Core.Path.{ap, ◌∙◌}
 use mathlib.Core.Bool.{Bool, not}
-use borrow.Author.Rules.{rules}
 use Rattle.answer.specs.Faults.{fault_if}
 use Rattle.tables.specs.Constants.{convert_of, is_bad, constant_fault}
 use Rattle.tables.specs.declared.constants.ConstantEntry.{ConstantEntry}

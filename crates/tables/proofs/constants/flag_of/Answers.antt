@@ -1,6 +1,5 @@
 -- `constants::flag_of` meets its contract. Assumes nothing.
 use mathlib.Core.Path.{◌∙◌}
-use borrow.Author.Rules.{rules}
 use Rattle.tables.proofs.Good.{good_if}
 use Rattle.tables.proofs.constants.flag_of.Goals as goal
 

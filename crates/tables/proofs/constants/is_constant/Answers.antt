@@ -1,7 +1,6 @@
 -- `constants::is_constant` meets its contract: each arm is the test of its number. Assumes nothing.
 use mathlib.Core.Path.{◌∙◌}
 use native.Mathlib.Omega.{arith}
-use borrow.Author.Rules.{rules}
 use borrow.Author.Tests.{ne_eqb}
 use Rattle.tables.specs.Constants.{convert_of}
 use Rattle.tables.proofs.constants.is_constant.Goals as goal

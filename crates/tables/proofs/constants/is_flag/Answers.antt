@@ -1,6 +1,5 @@
 -- `constants::is_flag` meets its contract. Assumes nothing.
 use mathlib.Core.Path.{sym}
-use borrow.Author.Rules.{rules}
 use Rattle.tables.proofs.Good.{good_if}
 use Rattle.tables.proofs.constants.is_flag.Goals as goal
 

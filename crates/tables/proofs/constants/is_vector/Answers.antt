@@ -1,6 +1,5 @@
 -- `constants::is_vector` meets its contract. Assumes nothing.
 use mathlib.Core.Path.{sym, ◌∙◌}
-use borrow.Author.Rules.{rules}
 use borrow.Author.Tests.{le-leb, lt-leb}
 use Rattle.tables.specs.Constants.{constant_if}
 use Rattle.tables.proofs.Good.{good_if}

@@ -1,5 +1,4 @@
 -- `entries::fault_unless` meets its contract. Assumes nothing.
-use borrow.Author.Rules.{rules}
 use Rattle.tables.proofs.entries.fault_unless.Goals as goal
 
 pub returns-else-good : goal.returns-else-good

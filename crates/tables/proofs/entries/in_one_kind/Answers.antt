@@ -1,5 +1,4 @@
 -- `entries::in_one_kind` meets its contract. Assumes nothing.
-use borrow.Author.Rules.{rules}
 use Rattle.tables.specs.Entries.{in_one_kind}
 use Rattle.tables.proofs.entries.in_one_kind.Goals as goal
 

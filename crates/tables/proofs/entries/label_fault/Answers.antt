@@ -1,6 +1,5 @@
 -- `entries::label_fault` meets its contract. Assumes nothing.
 use mathlib.Core.Path.{◌∙◌}
-use borrow.Author.Rules.{rules}
 use Rattle.tables.specs.Entries.{good_label, label_fault}
 use Rattle.tables.proofs.entries.label_fault.Goals as goal
 

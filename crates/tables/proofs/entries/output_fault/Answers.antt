@@ -1,6 +1,5 @@
 -- `entries::output_fault` meets its contract. Assumes nothing.
 use mathlib.Core.Path.{◌∙◌}
-use borrow.Author.Rules.{rules}
 use Rattle.tables.specs.Entries.{good_output, output_fault}
 use Rattle.tables.proofs.entries.output_fault.Goals as goal
 

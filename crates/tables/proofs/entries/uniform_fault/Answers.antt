@@ -1,6 +1,5 @@
 -- `entries::uniform_fault` meets its contract. Assumes nothing.
 use mathlib.Core.Path.{◌∙◌}
-use borrow.Author.Rules.{rules}
 use Rattle.tables.specs.Entries.{good_uniform, uniform_fault}
 use Rattle.tables.proofs.entries.uniform_fault.Goals as goal
 

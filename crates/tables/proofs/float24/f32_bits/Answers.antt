@@ -1,7 +1,6 @@
 -- `float24::f32_bits` meets its contract. Assumes nothing.
 use mathlib.Core.Path.{sym, ◌∙◌}
 use native.Mathlib.Omega.{arith}
-use borrow.Author.Rules.{rules}
 use Rattle.tables.proofs.Laws.{normal_bits, zero_bits}
 use Rattle.tables.proofs.float24.f32_bits.Goals as goal
 

@@ -1,7 +1,6 @@
 -- `float24::f32_of` meets its contract. Assumes nothing.
 use mathlib.Core.Path.{ap}
 use lib.Ieee.{binary32, of_bits}
-use borrow.Author.Rules.{rules}
 use Rattle.tables.proofs.Laws.{no_nan}
 use Rattle.tables.proofs.float24.f32_of.Goals as goal
 

@@ -1,5 +1,4 @@
 -- `float24::is_float24` meets its contract. Assumes nothing.
-use borrow.Author.Rules.{rules}
 use Rattle.tables.specs.Float24.{good_float24}
 use Rattle.tables.proofs.float24.is_float24.Goals as goal
 

@@ -1,8 +1,6 @@
 -- `names::names_end` meets its contract. Before each turn no byte from place `end` up is 00. Assumes nothing.
 use mathlib.Core.Path.{◌≡◌, sym, ap, ◌∙◌}
-use Prim.Native.Nat.{◌≤◌}
 use native.Mathlib.Omega.{arith}
-use lib.ListN.{length, take}
 use lib.Seq.{take-length}
 use borrow.Author.Rules.{rules}
 use Rattle.tables.specs.Names.{names_end}

@@ -1,12 +1,8 @@
 -- `names::names_end` meets its contract. Before each turn no byte from place `end` up is 00. Assumes nothing.
-use mathlib.Core.Path.{◌≡◌, sym, ap, ◌∙◌}
+use mathlib.Core.Path.{◌≡◌}
 use Prim.Native.Nat.{◌≤◌}
-use native.Mathlib.Omega.{arith}
 use lib.ListN.{length, take}
-use lib.Seq.{take-length}
-use borrow.Author.Rules.{rules}
 use Rattle.tables.specs.Names.{names_end}
-use Rattle.tables.proofs.Laws.{found, passed}
 use Rattle.tables.proofs.names.names_end.Given as goal
 
 abbrev pub invariant-loop-end : goal.invariant-loop-end

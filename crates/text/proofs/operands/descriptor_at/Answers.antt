@@ -1,7 +1,6 @@
 -- `operands::descriptor_at` meets its contract. Assumes nothing.
 use mathlib.Core.Path.{sym}
 use lib.ListN.{get_or-eq_default}
-use borrow.Author.Rules.{rules}
 use Rattle.text.proofs.operands.descriptor_at.Goals as goal
 
 pub returns-else-i-descriptors : goal.returns-else-i-descriptors

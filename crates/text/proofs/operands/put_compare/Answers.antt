@@ -1,5 +1,4 @@
 -- `operands::put_compare` meets its contract. Assumes nothing.
-use borrow.Author.Rules.{rules}
 use Rattle.text.specs.Operands.{compare_text}
 use Rattle.text.proofs.Putting.{◌then◌}
 use Rattle.text.proofs.operands.put_compare.Goals as goal

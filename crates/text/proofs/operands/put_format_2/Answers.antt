@@ -1,6 +1,5 @@
 -- `operands::put_format_2` meets its contract. Assumes nothing.
 use native.Mathlib.Omega.{arith}
-use borrow.Author.Rules.{rules}
 use borrow.Author.Tests.{eq-eqb, ne_eqb}
 use Rattle.text.specs.Operands.{of_format2}
 use Rattle.text.proofs.Putting.{◌then◌, wider}

@@ -4,7 +4,6 @@ use mathlib.Core.Path.{◌≡◌, ◌∙◌}
 use native.Mathlib.Omega.{arith}
 use lib.Dec.{eqb}
 use borrow.Author.Tests.{eq-eqb, ne_eqb}
-use borrow.Author.Rules.{rules}
 use Rattle.text.specs.Operands.{of_format3}
 use Rattle.text.proofs.Putting.{◌then◌, wider}
 use Rattle.text.proofs.operands.put_format_3.Goals.{then-op-eq41, else-op-eq41}

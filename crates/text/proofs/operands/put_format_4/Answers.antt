@@ -1,5 +1,4 @@
 -- `operands::put_format_4` meets its contract. Assumes nothing.
-use borrow.Author.Rules.{rules}
 use Rattle.text.specs.Operands.{of_format4}
 use Rattle.text.proofs.Putting.{◌then◌}
 use Rattle.text.proofs.operands.put_format_4.Goals as goal

@@ -1,5 +1,4 @@
 -- `operands::put_one` meets its contract. Assumes nothing.
-use borrow.Author.Rules.{rules}
 use Rattle.text.specs.Operands.{one_source}
 use Rattle.text.proofs.Putting.{◌then◌}
 use Rattle.text.proofs.operands.put_one.Goals as goal

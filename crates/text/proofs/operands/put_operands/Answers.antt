@@ -1,6 +1,5 @@
 -- `operands::put_operands` meets its contract. Assumes nothing.
 use native.Mathlib.Omega.{arith}
-use borrow.Author.Rules.{rules}
 use Rattle.text.specs.Operands.{operands_in}
 use Rattle.text.proofs.Putting.{no_piece, wider}
 use Rattle.text.proofs.operands.put_operands.Goals as goal

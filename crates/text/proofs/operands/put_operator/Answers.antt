@@ -1,5 +1,4 @@
 -- `operands::put_operator` meets its contract. Assumes nothing.
-use borrow.Author.Rules.{rules}
 use Rattle.text.specs.Operands.{operator_text}
 use Rattle.text.proofs.Putting.{◌then◌}
 use Rattle.text.proofs.operands.put_operator.Goals as goal

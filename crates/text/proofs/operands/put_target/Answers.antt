@@ -1,5 +1,4 @@
 -- `operands::put_target` meets its contract. Assumes nothing.
-use borrow.Author.Rules.{rules}
 use Rattle.text.specs.Operands.{target_text}
 use Rattle.text.proofs.Putting.{◌then◌}
 use Rattle.text.proofs.operands.put_target.Goals as goal

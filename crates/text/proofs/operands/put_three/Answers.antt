@@ -1,5 +1,4 @@
 -- `operands::put_three` meets its contract. Assumes nothing.
-use borrow.Author.Rules.{rules}
 use Rattle.text.specs.Operands.{three_sources}
 use Rattle.text.proofs.Putting.{◌then◌}
 use Rattle.text.proofs.operands.put_three.Goals as goal

@@ -1,6 +1,5 @@
 -- `piece::put_decimal` meets its contract. Assumes nothing.
 use native.Mathlib.Omega.{arith}
-use borrow.Author.Rules.{rules}
 use borrow.Author.Tests.{lt-ltb, le-ltb}
 use Rattle.text.specs.Pieces.{decimal}
 use Rattle.text.proofs.Putting.{wider}

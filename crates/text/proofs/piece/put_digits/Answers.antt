@@ -4,8 +4,7 @@ use native.Mathlib.Nat.{mod-lt}
 use native.Mathlib.Omega.{arith}
 use lib.ListN.{length}
 use lib.Seq.{length-sets}
-use borrow.Author.Rules.{rules}
-use Rattle.text.proofs.Putting.{Left, all_left, one_less, none_left}
+use Rattle.text.proofs.Putting.{all_left, one_less, none_left}
 use Rattle.text.proofs.piece.put_digits.Goals as goal
 
 pub loop-i-init : goal.loop-i-init

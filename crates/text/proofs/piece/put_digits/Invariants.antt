@@ -1,11 +1,5 @@
 -- `piece::put_digits` meets its contract: with i digits left, those of the rest are still to be put. Assumes nothing.
-use mathlib.Core.Path.{◌≡◌, ap, ◌∙◌}
-use native.Mathlib.Nat.{mod-lt}
-use native.Mathlib.Omega.{arith}
-use lib.ListN.{length}
-use lib.Seq.{length-sets}
-use borrow.Author.Rules.{rules}
-use Rattle.text.proofs.Putting.{Left, all_left, one_less, none_left}
+use Rattle.text.proofs.Putting.{Left}
 use Rattle.text.proofs.piece.put_digits.Given as goal
 
 abbrev pub invariant-loop-i : goal.invariant-loop-i

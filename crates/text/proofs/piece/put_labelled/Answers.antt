@@ -1,5 +1,4 @@
 -- `piece::put_labelled` meets its contract. Assumes nothing.
-use borrow.Author.Rules.{rules}
 use Rattle.text.specs.Pieces.{labelled}
 use Rattle.text.proofs.Putting.{◌then◌}
 use Rattle.text.proofs.piece.put_labelled.Goals as goal

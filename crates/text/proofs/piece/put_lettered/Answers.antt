@@ -1,5 +1,4 @@
 -- `piece::put_lettered` meets its contract. Assumes nothing.
-use borrow.Author.Rules.{rules}
 use Rattle.text.specs.Pieces.{lettered}
 use Rattle.text.proofs.Putting.{◌then◌}
 use Rattle.text.proofs.piece.put_lettered.Goals as goal

@@ -1,9 +1,8 @@
 -- `piece::put_text` meets its contract. Before each turn the bytes below i are there. Assumes nothing.
-use mathlib.Core.Path.{◌≡◌, refl, ap, ◌∙◌}
-use Prim.Native.Nat.{◌-◌, ◌≤◌}
+use mathlib.Core.Path.{◌≡◌, refl, ap}
 use native.Mathlib.Omega.{arith}
 use lib.ListN.{length, take}
-use lib.Seq.{sets, length-sets, take-length}
+use lib.Seq.{length-sets, take-length}
 use borrow.Author.Rules.{rules}
 use Rattle.text.proofs.Putting.{text_next}
 use Rattle.text.proofs.piece.put_text.Goals as goal

@@ -1,11 +1,8 @@
 -- `piece::put_text` meets its contract. Before each turn the bytes below i are there. Assumes nothing.
-use mathlib.Core.Path.{◌≡◌, refl, ap, ◌∙◌}
+use mathlib.Core.Path.{◌≡◌}
 use Prim.Native.Nat.{◌-◌, ◌≤◌}
-use native.Mathlib.Omega.{arith}
 use lib.ListN.{length, take}
-use lib.Seq.{sets, length-sets, take-length}
-use borrow.Author.Rules.{rules}
-use Rattle.text.proofs.Putting.{text_next}
+use lib.Seq.{sets}
 use Rattle.text.proofs.piece.put_text.Given as goal
 
 abbrev pub invariant-loop-i : goal.invariant-loop-i

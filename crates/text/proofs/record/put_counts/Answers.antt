@@ -1,5 +1,4 @@
 -- `record::put_counts` meets its contract. Assumes nothing.
-use borrow.Author.Rules.{rules}
 use Rattle.text.specs.Records.{counts_text}
 use Rattle.text.proofs.Putting.{◌then◌}
 use Rattle.text.proofs.record.put_counts.Goals as goal

@@ -1,5 +1,4 @@
 -- `record::put_head` meets its contract. Assumes nothing.
-use borrow.Author.Rules.{rules}
 use Rattle.text.specs.Records.{head_text}
 use Rattle.text.proofs.Putting.{◌then◌}
 use Rattle.text.proofs.record.put_head.Goals as goal

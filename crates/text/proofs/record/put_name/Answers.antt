@@ -1,5 +1,4 @@
 -- `record::put_name` meets its contract. Assumes nothing.
-use borrow.Author.Rules.{rules}
 use Rattle.text.proofs.Records.{name_put, no_name}
 use Rattle.text.proofs.record.put_name.Goals as goal
 

@@ -1,7 +1,5 @@
 -- `record::put_operation` meets its contract. Assumes nothing.
 use mathlib.Core.Path.{sym, ap, ◌∙◌}
-use borrow.Author.Rules.{rules}
-use Rattle.answer.specs.Answers.{given}
 use Rattle.instruction.specs.Words.{decoded}
 use Rattle.text.specs.Records.{operation_text}
 use Rattle.text.proofs.Putting.{◌then◌, no_piece}

@@ -1,6 +1,5 @@
 -- `record::refused_line` meets its contract. Assumes nothing.
 use native.Mathlib.Omega.{arith}
-use borrow.Author.Rules.{rules}
 use Rattle.text.specs.Records.{refused_text}
 use Rattle.text.proofs.Putting.{◌then◌}
 use Rattle.text.proofs.Records.{recorded}

@@ -1,5 +1,4 @@
 -- `registers::put_destination` meets its contract. Assumes nothing.
-use borrow.Author.Rules.{rules}
 use Rattle.text.specs.Registers.{destination_text}
 use Rattle.text.proofs.Putting.{◌then◌}
 use Rattle.text.proofs.registers.put_destination.Goals as goal

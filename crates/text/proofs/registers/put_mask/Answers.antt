@@ -1,6 +1,5 @@
 -- `registers::put_mask` meets its contract. Assumes nothing.
 use native.Mathlib.Omega.{arith}
-use borrow.Author.Rules.{rules}
 use borrow.Author.Tests.{eq-eqb, ne_eqb}
 use Rattle.text.specs.Registers.{mask_text}
 use Rattle.text.proofs.Putting.{◌then◌, wider}

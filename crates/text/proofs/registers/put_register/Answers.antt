@@ -1,5 +1,4 @@
 -- `registers::put_register` meets its contract. Assumes nothing.
-use borrow.Author.Rules.{rules}
 use borrow.Author.Tests.{lt-ltb, le-ltb}
 use Rattle.text.specs.Registers.{register_text}
 use Rattle.text.proofs.registers.put_register.Goals as goal

@@ -1,5 +1,4 @@
 -- `registers::put_selectors` meets its contract. Assumes nothing.
-use borrow.Author.Rules.{rules}
 use Rattle.text.specs.Registers.{selectors_text}
 use Rattle.text.proofs.Putting.{◌then◌}
 use Rattle.text.proofs.registers.put_selectors.Goals as goal

@@ -1,5 +1,4 @@
 -- `registers::put_sign` meets its contract. Assumes nothing.
-use borrow.Author.Rules.{rules}
 use borrow.Author.Tests.{eq-eqb, ne_eqb}
 use Rattle.text.specs.Registers.{sign_text}
 use Rattle.text.proofs.Putting.{no_piece}

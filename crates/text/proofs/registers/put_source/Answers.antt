@@ -1,5 +1,4 @@
 -- `registers::put_source` meets its contract. Assumes nothing.
-use borrow.Author.Rules.{rules}
 use Rattle.text.specs.Registers.{source_text}
 use Rattle.text.proofs.Putting.{◌then◌}
 use Rattle.text.proofs.registers.put_source.Goals as goal

@@ -1,5 +1,4 @@
 -- `registers::put_written` meets its contract. Assumes nothing.
-use borrow.Author.Rules.{rules}
 use borrow.Author.Tests.{eq-eqb, ne_eqb}
 use Rattle.text.specs.Registers.{written_text}
 use Rattle.text.proofs.Putting.{no_piece}

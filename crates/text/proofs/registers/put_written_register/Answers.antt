@@ -1,5 +1,4 @@
 -- `registers::put_written_register` meets its contract. Assumes nothing.
-use borrow.Author.Rules.{rules}
 use borrow.Author.Tests.{lt-ltb, le-ltb, eq-eqb, ne_eqb}
 use Rattle.text.specs.Registers.{written_register}
 use Rattle.text.proofs.registers.put_written_register.Goals as goal

@@ -1,6 +1,5 @@
 -- `earlier::flow_after` meets its contract: a main of the same words and type has the same flow. Assumes nothing.
 use mathlib.Core.Path.{◌∙◌}
-use borrow.Author.Rules.{rules}
 use Rattle.verifier.proofs.Sharing.{same_main}
 use Rattle.verifier.proofs.earlier.flow_after.Goals as goal
 

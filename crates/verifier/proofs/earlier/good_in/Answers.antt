@@ -2,7 +2,6 @@
 use mathlib.Core.Path.{◌≡◌}
 use mathlib.Core.Bool.{true, false, ◌&&◌}
 use lib.Dec.{eqb}
-use borrow.Author.Rules.{rules}
 use Rattle.verifier.proofs.earlier.good_in.Goals as goal
 
 pub returns-then-same_names-good : goal.returns-then-same_names-good

@@ -1,6 +1,5 @@
 -- `earlier::names_after` meets its contract: a symbol table of the same bytes has the same names. Assumes nothing.
 use mathlib.Core.Path.{◌∙◌}
-use borrow.Author.Rules.{rules}
 use Rattle.verifier.proofs.Sharing.{same_symbols}
 use Rattle.verifier.proofs.earlier.names_after.Goals as goal
 

@@ -1,6 +1,5 @@
 -- `earlier::names_end_of` meets its contract. Assumes nothing.
 use mathlib.Core.Path.{ap, ◌∙◌}
-use borrow.Author.Rules.{rules}
 use Rattle.tables.specs.Names.{names_end}
 use Rattle.verifier.proofs.earlier.names_end_of.Goals as goal
 

@@ -1,5 +1,4 @@
 -- `earlier::none_earlier` meets its contract. Assumes nothing.
-use borrow.Author.Rules.{rules}
 use Rattle.verifier.proofs.Sharing.{none_known}
 use Rattle.verifier.proofs.earlier.none_earlier.Goals as goal
 

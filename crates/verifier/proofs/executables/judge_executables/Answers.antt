@@ -1,7 +1,6 @@
 -- `executables::judge_executables` meets its contract: what is left of the answer at each stage of an executable is kept from one loop to the next, and what is known of the executable before it. Assumes nothing.
 use mathlib.Core.Path.{◌≡◌, refl, sym, ap, ◌∙◌}
 use mathlib.Core.Bool.{true}
-use mathlib.Core.Logic.{⊎_elim}
 use Prim.Native.Nat.{ℕ, ◌+◌, ◌-◌, ◌≤◌, ◌<◌}
 use native.Mathlib.Omega.{arith}
 use borrow.Author.Rules.{rules}
@@ -12,10 +11,9 @@ use Rattle.flow.specs.Flow.{flowed}
 use Rattle.tables.specs.Constants.{constant_fault}
 use Rattle.tables.specs.Entries.{label_fault, output_fault, uniform_fault}
 use Rattle.verifier.specs.Executables.{place_of, no_report, report_of}
-use Rattle.verifier.specs.Inside.{Known}
 use Rattle.verifier.specs.Lists.{filled}
-use Rattle.verifier.proofs.Sharing.{constant_placeless, label_placeless, output_placeless, uniform_placeless, Upto, begun, next, all_good, label_test, uniform_test, known_labels, known_uniforms, now_known}
-use Rattle.verifier.proofs.Stages.{All, From, FromFlow, FromUniforms, FromOutputs, FromLabels, begin, at_head, past_head, seen, seen_names, constants_fit, labels_fit, outputs_fit, uniforms_fit, word_inside, flow_stops, flow_goes_on, report_added, none_yet, Left, left_by, told_refused, told_accepted}
+use Rattle.verifier.proofs.Sharing.{constant_placeless, label_placeless, output_placeless, uniform_placeless, begun, next, all_good, known_labels, known_uniforms, now_known}
+use Rattle.verifier.proofs.Stages.{All, begin, at_head, past_head, seen, seen_names, constants_fit, labels_fit, outputs_fit, uniforms_fit, word_inside, flow_stops, flow_goes_on, report_added, none_yet, Left, left_by, told_refused, told_accepted}
 use Rattle.verifier.proofs.executables.judge_executables.Goals.{After-executable_of-e, Left-executables, else-executables-test, then-executables-test+in-At, then-executables-test+in_default+then-loop-entry-test+in-At-found, then-executables-test+in_default+else-loop-entry-test+then-loop-entry-2-test+in-At-found-2, then-executables-test+in_default+else-loop-entry-test+else-loop-entry-2-test+then-loop-entry-3-test+in-At-found-3, then-executables-test+in_default+else-loop-entry-test+else-loop-entry-2-test+else-loop-entry-3-test+then-loop-entry-4-test+in-At-found-4, then-executables-test+in_default+else-loop-entry-test+else-loop-entry-2-test+else-loop-entry-3-test+else-loop-entry-4-test+in-Refused}
 use Rattle.verifier.proofs.executables.judge_executables.Goals as goal
 

@@ -1,21 +1,14 @@
 -- `executables::judge_executables` meets its contract: what is left of the answer at each stage of an executable is kept from one loop to the next, and what is known of the executable before it. Assumes nothing.
-use mathlib.Core.Path.{◌≡◌, refl, sym, ap, ◌∙◌}
-use mathlib.Core.Bool.{true}
-use mathlib.Core.Logic.{⊎_elim}
-use Prim.Native.Nat.{ℕ, ◌+◌, ◌-◌, ◌≤◌, ◌<◌}
-use native.Mathlib.Omega.{arith}
-use borrow.Author.Rules.{rules}
+use mathlib.Core.Path.{◌≡◌}
+use Prim.Native.Nat.{◌-◌, ◌≤◌}
 use Rattle.answer.specs.declared.Fault.TheVariants.{Nothing}
-use Rattle.answer.proofs.Laws.{stop, hit, over}
-use Rattle.container.specs.Executable.{executable_fault}
-use Rattle.flow.specs.Flow.{flowed}
 use Rattle.tables.specs.Constants.{constant_fault}
-use Rattle.tables.specs.Entries.{label_fault, output_fault, uniform_fault}
-use Rattle.verifier.specs.Executables.{place_of, no_report, report_of}
+use Rattle.tables.specs.Entries.{output_fault}
+use Rattle.verifier.specs.Executables.{no_report, report_of}
 use Rattle.verifier.specs.Inside.{Known}
 use Rattle.verifier.specs.Lists.{filled}
-use Rattle.verifier.proofs.Sharing.{constant_placeless, label_placeless, output_placeless, uniform_placeless, Upto, begun, next, all_good, label_test, uniform_test, known_labels, known_uniforms, now_known}
-use Rattle.verifier.proofs.Stages.{All, From, FromFlow, FromUniforms, FromOutputs, FromLabels, begin, at_head, past_head, seen, seen_names, constants_fit, labels_fit, outputs_fit, uniforms_fit, word_inside, flow_stops, flow_goes_on, report_added, none_yet, Left, left_by, told_refused, told_accepted}
+use Rattle.verifier.proofs.Sharing.{Upto, label_test, uniform_test}
+use Rattle.verifier.proofs.Stages.{All, From, FromFlow, FromUniforms, FromOutputs, FromLabels}
 use Rattle.verifier.proofs.executables.judge_executables.Given as goal
 
 abbrev pub invariant-loop-entry : goal.invariant-loop-entry

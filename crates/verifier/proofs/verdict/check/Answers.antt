@@ -1,6 +1,5 @@
 -- `verdict::check` meets its contract. Assumes nothing.
 use mathlib.Core.Path.{◌≡◌, ap}
-use borrow.Author.Rules.{rules}
 use Rattle.verifier.specs.Verdict.{checked_as, check_of, judge_of}
 use Rattle.verifier.proofs.Answers.{exactly}
 use Rattle.verifier.proofs.verdict.check.Goals as goal

@@ -1,7 +1,6 @@
 -- `verdict::judge` meets its contract. Assumes nothing.
 use mathlib.Core.Path.{sym, ◌∙◌}
 use native.Mathlib.Omega.{arith}
-use borrow.Author.Rules.{rules}
 use Rattle.verifier.proofs.Answers.{refused_by_library, words_fit, loaded, refused_by_words, judged_executables, few_executables}
 use Rattle.verifier.proofs.Lists.{loaded_length, loaded_enough}
 use Rattle.verifier.proofs.verdict.judge.Goals as goal

@@ -1,5 +1,4 @@
 -- `verdict::refused` meets its contract. Assumes nothing.
-use borrow.Author.Rules.{rules}
 use Rattle.verifier.proofs.verdict.refused.Goals as goal
 
 pub returns : goal.returns

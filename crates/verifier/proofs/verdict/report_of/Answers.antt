@@ -1,5 +1,4 @@
 -- `verdict::report_of` meets its contract. Assumes nothing.
-use borrow.Author.Rules.{rules}
 use Rattle.verifier.proofs.Answers.{report_refused, report_missing, below_16, report_given}
 use Rattle.verifier.proofs.verdict.report_of.Goals as goal
 

@@ -1,5 +1,4 @@
 -- `words::has_bad_operators` meets its contract. Assumes nothing.
-use borrow.Author.Rules.{rules}
 use Rattle.verifier.proofs.words.has_bad_operators.Goals as goal
 
 pub returns-in-Compares : goal.returns-in-Compares

@@ -1,5 +1,4 @@
 -- `words::has_bad_register` meets its contract. Assumes nothing.
-use borrow.Author.Rules.{rules}
 use Rattle.verifier.proofs.words.has_bad_register.Goals as goal
 
 pub returns-in-Loop : goal.returns-in-Loop

@@ -1,5 +1,4 @@
 -- `words::is_undescribed` meets its contract. Assumes nothing.
-use borrow.Author.Rules.{rules}
 use Rattle.verifier.proofs.words.is_undescribed.Goals as goal
 
 pub returns-in-Id : goal.returns-in-Id

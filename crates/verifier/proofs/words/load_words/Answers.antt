@@ -1,13 +1,12 @@
 -- `words::load_words` meets its contract. Before each turn the words below p are there. Assumes nothing.
 use mathlib.Core.Path.{◌≡◌, ap, ◌∙◌}
-use Prim.Native.Nat.{◌+◌, ◌*◌, ◌-◌, ◌≤◌, ◌<◌, min}
+use Prim.Native.Nat.{◌+◌, ◌*◌, ◌<◌, min}
 use native.Mathlib.Omega.{arith}
 use lib.ListN.{length}
 use borrow.Author.Rules.{rules}
 use borrow.Author.Tests.{leb-true}
 use Rattle.binary.specs.Bytes.{u32_at}
 use Rattle.binary.specs.declared.ByteOffset.{ByteOffset}
-use Rattle.verifier.specs.Lists.{filled}
 use Rattle.verifier.proofs.Lists.{filled_none, filled_next, table_drop}
 use Rattle.verifier.proofs.words.load_words.Goals as goal
 

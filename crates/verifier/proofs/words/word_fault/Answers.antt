@@ -1,7 +1,6 @@
 -- `words::word_fault` meets its contract. Assumes nothing.
 use mathlib.Core.Path.{◌≡◌, sym, ap, ◌∙◌}
 use mathlib.Core.Bool.{Bool}
-use borrow.Author.Rules.{rules}
 use Rattle.verifier.specs.Words.{is_unknown, bad_operators, undescribed, bad_register, word_fault}
 use Rattle.verifier.proofs.AnyFields.{no_fault}
 use Rattle.verifier.proofs.words.word_fault.Goals as goal

@@ -1,14 +1,11 @@
 -- `words::words_fault` meets its contract: what is left from word p on is the answer. Assumes nothing.
-use mathlib.Core.Path.{◌≡◌, sym, ◌∙◌}
+use mathlib.Core.Path.{◌≡◌}
 use mathlib.Core.List.{List}
 use Prim.Native.Nat.{ℕ, ◌-◌, ◌≤◌}
-use native.Mathlib.Omega.{arith}
-use borrow.Author.Rules.{rules}
 use lib.ListN.{length, get_or}
 use Rattle.answer.specs.Faults.{or_else, first_in}
 use Rattle.answer.specs.declared.Fault.{Fault}
 use Rattle.answer.specs.declared.Fault.TheVariants.{Nothing}
-use Rattle.answer.proofs.Laws.{or_nothing, hit, miss, over}
 use Rattle.verifier.specs.Words.{word_fault, words_fault}
 use Rattle.verifier.proofs.words.words_fault.Given as goal
 

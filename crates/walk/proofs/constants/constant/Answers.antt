@@ -1,7 +1,6 @@
 -- `constants::constant` meets its contract. Assumes nothing.
 use mathlib.Core.Path.{sym, ap, ◌∙◌}
 use native.Mathlib.Omega.{arith}
-use borrow.Author.Rules.{rules}
 use Rattle.verifier.proofs.Taken.{taken}
 use Rattle.walk.proofs.Handing.{constant_refused, no_executable_lem, no_constant, never_bad, constant_given, entry_at_lem}
 use Rattle.walk.proofs.constants.constant.Goals as goal

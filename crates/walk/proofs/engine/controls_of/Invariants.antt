@@ -1,12 +1,9 @@
 -- `engine::controls_of` meets its contract. Before each turn the controls below p are there. Assumes nothing.
 use mathlib.Core.Path.{◌≡◌}
-use Prim.Native.Nat.{◌+◌, ◌-◌, ◌≤◌}
-use native.Mathlib.Omega.{arith}
-use lib.ListN.{length, get_or}
-use borrow.Author.Rules.{rules}
+use Prim.Native.Nat.{◌-◌, ◌≤◌}
+use lib.ListN.{get_or}
 use Rattle.instruction.specs.Control.{control_of}
 use Rattle.instruction.specs.declared.flow_control.Control.TheVariants.{Plain}
-use Rattle.verifier.proofs.Lists.{filled_none, filled_next}
 use Rattle.verifier.specs.Lists.{filled}
 use Rattle.walk.proofs.engine.controls_of.Given as goal
 

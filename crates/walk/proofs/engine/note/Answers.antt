@@ -1,7 +1,6 @@
 -- `engine::note` meets its contract. Assumes nothing.
 use mathlib.Core.Path.{sym}
 use lib.Seq.{set_out}
-use borrow.Author.Rules.{rules}
 use Rattle.walk.proofs.engine.note.Goals as goal
 
 pub returns-else-step-fetched : goal.returns-else-step-fetched

@@ -1,13 +1,10 @@
 -- `engine::run_main` meets its contract. Before each turn the arrays show the state of the run after so many steps; what is left of the run falls with each. Assumes nothing.
-use mathlib.Core.Path.{◌≡◌, refl, sym, ◌∙◌}
+use mathlib.Core.Path.{◌≡◌}
 use Prim.Native.Nat.{◌-◌}
-use native.Mathlib.Omega.{arith}
 use lib.ListN.{length}
-use borrow.Author.Rules.{rules}
 use Rattle.walk.specs.Inside.{frames_of, fetches_by}
 use Rattle.walk.specs.Walk.{settings_of}
-use Rattle.walk.proofs.Regions.{frames_length}
-use Rattle.walk.proofs.Running.{Going, word_inside, shallow, early, moved_is, goes_on, ended, few_steps, begins}
+use Rattle.walk.proofs.Running.{Going}
 use Rattle.walk.proofs.engine.run_main.Given as goal
 
 abbrev pub invariant-loop-controls : goal.invariant-loop-controls

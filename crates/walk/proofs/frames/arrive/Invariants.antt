@@ -1,13 +1,8 @@
 -- `frames::arrive` meets its contract. Before each turn the regions passed have closed. Assumes nothing.
-use mathlib.Core.Path.{◌≡◌, refl, ◌∙◌}
-use mathlib.Core.Logic.{◌⊎◌, inl, inr, ⊎_elim}
-use Prim.Native.Nat.{◌-◌, ◌≤◌}
-use native.Mathlib.Omega.{arith}
-use lib.ListN.{length, length-set}
-use borrow.Author.Rules.{rules}
-use borrow.Author.Tests.{eqb-true, eqb-false, not-true, not-false}
+use mathlib.Core.Path.{◌≡◌}
+use Prim.Native.Nat.{◌≤◌}
+use lib.ListN.{length}
 use Rattle.walk.specs.Inside.{frames_of, closing}
-use Rattle.walk.proofs.Regions.{arrives_inside, arrives_again, arrives_after, arrives_past, arrives_none}
 use Rattle.walk.proofs.frames.arrive.Given as goal
 
 abbrev pub invariant-loop-left : goal.invariant-loop-left

@@ -1,7 +1,6 @@
 -- `frames::follow` meets its contract. Assumes nothing.
 use mathlib.Core.Path.{refl, ap, ◌∙◌}
 use native.Mathlib.Omega.{arith}
-use borrow.Author.Rules.{rules}
 use Rattle.walk.specs.Inside.{frames_of, closing}
 use Rattle.walk.proofs.frames.follow.Goals as goal
 

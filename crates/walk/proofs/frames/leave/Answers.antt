@@ -1,10 +1,7 @@
 -- `frames::leave` meets its contract. Before each turn no LOOP is among the regions passed. Assumes nothing.
-use mathlib.Core.Path.{◌≡◌, refl, ◌∙◌}
-use mathlib.Core.List.{List}
-use Prim.Native.Nat.{ℕ, ◌-◌, ◌≤◌}
+use mathlib.Core.Path.{refl, ◌∙◌}
 use native.Mathlib.Omega.{arith}
 use borrow.Author.Rules.{rules}
-use Rattle.walk.specs.Inside.{frames_of, leaving}
 use Rattle.walk.proofs.Regions.{leaves_here, leaves_on, leaves_none}
 use Rattle.walk.proofs.frames.leave.Goals as goal
 

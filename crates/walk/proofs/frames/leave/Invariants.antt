@@ -1,11 +1,8 @@
 -- `frames::leave` meets its contract. Before each turn no LOOP is among the regions passed. Assumes nothing.
-use mathlib.Core.Path.{◌≡◌, refl, ◌∙◌}
+use mathlib.Core.Path.{◌≡◌}
 use mathlib.Core.List.{List}
-use Prim.Native.Nat.{ℕ, ◌-◌, ◌≤◌}
-use native.Mathlib.Omega.{arith}
-use borrow.Author.Rules.{rules}
+use Prim.Native.Nat.{ℕ, ◌≤◌}
 use Rattle.walk.specs.Inside.{frames_of, leaving}
-use Rattle.walk.proofs.Regions.{leaves_here, leaves_on, leaves_none}
 use Rattle.walk.proofs.frames.leave.Given as goal
 
 abbrev pub invariant-loop-left : goal.invariant-loop-left

@@ -1,6 +1,5 @@
 -- `frames::open_region` meets its contract. Assumes nothing.
 use native.Mathlib.Omega.{arith}
-use borrow.Author.Rules.{rules}
 use Rattle.walk.proofs.Regions.{opened}
 use Rattle.walk.proofs.frames.open_region.Goals as goal
 

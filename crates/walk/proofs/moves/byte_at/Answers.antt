@@ -1,5 +1,4 @@
 -- `moves::byte_at` meets its contract. Assumes nothing.
-use borrow.Author.Rules.{rules}
 use Rattle.binary.proofs.Laws.{u8_past}
 use Rattle.walk.proofs.moves.byte_at.Goals as goal
 

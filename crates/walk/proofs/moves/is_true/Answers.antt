@@ -1,5 +1,4 @@
 -- `moves::is_true` meets its contract. Assumes nothing.
-use borrow.Author.Rules.{rules}
 use Rattle.walk.proofs.Settings.{truth_at}
 use Rattle.walk.proofs.moves.is_true.Goals as goal
 

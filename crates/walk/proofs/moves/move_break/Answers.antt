@@ -1,5 +1,4 @@
 -- `moves::move_break` meets its contract. Assumes nothing.
-use borrow.Author.Rules.{rules}
 use Rattle.walk.proofs.moves.move_break.Goals as goal
 
 pub returns-then-taken : goal.returns-then-taken

@@ -1,5 +1,4 @@
 -- `moves::move_jump` meets its contract. Assumes nothing.
-use borrow.Author.Rules.{rules}
 use Rattle.walk.proofs.moves.move_jump.Goals as goal
 
 pub returns-then-taken : goal.returns-then-taken

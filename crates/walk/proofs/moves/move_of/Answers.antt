@@ -1,6 +1,5 @@
 -- `moves::move_of` meets its contract. Assumes nothing.
 use mathlib.Core.Path.{◌∙◌}
-use borrow.Author.Rules.{rules}
 use Rattle.walk.proofs.moves.move_of.Goals as goal
 
 pub returns-in-Unknown : goal.returns-in-Unknown

@@ -1,6 +1,5 @@
 -- `moves::read_after` meets its contract. Assumes nothing.
 use native.Mathlib.Numerals.{add-one}
-use borrow.Author.Rules.{rules}
 use Rattle.walk.proofs.moves.read_after.Goals as goal
 
 pub returns-in-Compared : goal.returns-in-Compared

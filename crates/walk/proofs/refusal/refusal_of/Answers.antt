@@ -1,5 +1,4 @@
 -- `refusal::refusal_of` meets its contract. Assumes nothing.
-use borrow.Author.Rules.{rules}
 use Rattle.walk.proofs.refusal.refusal_of.Goals as goal
 
 pub returns-in-Refused : goal.returns-in-Refused

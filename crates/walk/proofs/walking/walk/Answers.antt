@@ -1,8 +1,6 @@
 -- `walking::walk` meets its contract. Assumes nothing.
 use mathlib.Core.Path.{sym, ap, ◌∙◌}
-use mathlib.Core.Logic.{◌⊎◌, inl, inr, ⊎_elim}
-use borrow.Author.Rules.{rules}
-use borrow.Author.Tests.{ltb-true, ltb-false}
+use mathlib.Core.Logic.{inl, inr}
 use Rattle.verifier.proofs.Lists.{loaded_words_lem, loaded_length, loaded_enough}
 use Rattle.verifier.proofs.Taken.{taken}
 use Rattle.verifier.specs.Words.{words_of}
