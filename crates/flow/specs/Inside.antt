@@ -44,8 +44,8 @@ part_of x w p E = record { opens = x; weight = w; from = word_address p; to = wo
 
 -- a fault is refused by its number; else what follows
 abbrev pub unless : Fault → Look → Look
-unless (fault.At number word) next = Refuse number
-unless Nothing next = next
+unless (fault.At number word) look = Refuse number
+unless Nothing look = look
 
 -- the tests of the words that have bounds or a target, in the order 24, 25 or 26, and their parts
 unfoldable pub look_if : Rules → Opens → ℕ → ℕ → ℕ → ℕ → ℕ → Look
