@@ -2,7 +2,7 @@
 use mathlib.Core.Path.{◌≡◌, ap, subst}
 use mathlib.Core.List.{List}
 use Prim.Native.Nat.{ℕ}
-use Rattle.io.specs.Counts.{IsPrefixLen}
+use Rattle.std.specs.Counts.{IsPrefixLen}
 use Rattle.pica_check.specs.Got.{gotten}
 use Rattle.pica_check.specs.declared.file.Got.{Got}
 use Rattle.pica_check.specs.declared.file.Got.TheVariants.{Bytes}

@@ -1,6 +1,9 @@
 // The bytes of an open file.
-ghost use Rattle.io.specs.Counts.{IsPrefixLen};
+ghost use Rattle.std.specs.Counts.{IsPrefixLen};
 ghost use Rattle.pica_check.specs.Got.{gotten};
+
+use inputs::read_full;
+use std::io::Read;
 
 // How many bytes were got, or that a read failed: a file that cannot be read is not an empty one.
 #[derive(Clone, Copy)]
@@ -9,30 +12,12 @@ pub(crate) enum Got {
     Failed,
 }
 
-// One read: no bytes where the file has ended.
-fn read_some(fd: i32, bytes: &mut [u8]) -> Got
+// Reads until `bytes` is full or the file ends.
+pub(crate) fn read_file<R: Read>(file: &mut R, bytes: &mut [u8]) -> Got
     ensures { IsPrefixLen (gotten result) bytes.new }
 {
-    let got = libc::read(fd, bytes);
-    if got < 0 {
-        return Got::Failed;
+    match read_full(file, bytes) {
+        Ok(count) => Got::Bytes(count),
+        Err(_) => Got::Failed,
     }
-    Got::Bytes(io::count(got, bytes))
-}
-
-// Reads until `bytes` is full or the file ends. A read may give fewer bytes than there are.
-pub(crate) fn read_file(fd: i32, bytes: &mut [u8]) -> Got
-    ensures { IsPrefixLen (gotten result) bytes.new }
-{
-    let mut done = 0;
-    while done < bytes.len() {
-        let Got::Bytes(more) = read_some(fd, &mut bytes[done..]) else {
-            return Got::Failed;
-        };
-        if more == 0 {
-            break;
-        }
-        done += more;
-    }
-    Got::Bytes(done)
 }

@@ -5,52 +5,50 @@
 mod file;
 mod line;
 
-ghost use Rattle.io.specs.Counts.{IsPrefixLen};
-
 use file::{Got, read_file};
-use libc::STDERR_FILENO;
+use inputs::{argument, open_file};
 use line::{write_line, write_verdict};
+use std::env::Env;
+use std::io;
+use std::io::Write;
+use std::rt::Files;
 use verifier::check;
 
 // One byte more than a library may have is read, so that a longer file is refused and not cut.
-fn judge_file(name: &[u8]) {
-    let fd = os::open_read(name);
-    if fd < 0 {
-        write_line(name, b": cannot be opened\n");
-        return;
-    }
+fn judge_file<F: Files, W: Write>(files: &F, output: &mut W, name: &[u8]) -> io::Result<()> {
+    let Ok(mut file) = open_file(files, name) else {
+        return write_line(output, name, b": cannot be opened\n");
+    };
     let mut bytes = [0u8; 65537];
-    let got = read_file(fd, &mut bytes);
-    libc::close(fd);
-    match got {
-        Got::Bytes(count) => write_verdict(name, check(&bytes[..count])),
-        Got::Failed => write_line(name, b": cannot be read\n"),
+    match read_file(&mut file, &mut bytes) {
+        Got::Bytes(count) => write_verdict(output, name, check(&bytes[..count])),
+        Got::Failed => write_line(output, name, b": cannot be read\n"),
     }
 }
 
-// Puts an argument at the start of `name` and answers its length. One that does not fit fills `name`, and is then too long for any file to be opened by it.
-fn argument(index: usize, name: &mut [u8]) -> usize
-    ensures { IsPrefixLen result name.new }
-{
-    let length = os::arg(index, name);
-    if os::errno() == libc::ENAMETOOLONG {
-        return name.len();
-    }
-    length
+// Judges the file that an argument names, and answers whether there is such an argument.
+fn judge_argument<R: Env + Files, W: Write>(
+    rt: &R,
+    output: &mut W,
+    index: usize,
+) -> io::Result<bool> {
+    let mut name = [0u8; 4096];
+    let Some(length) = argument(rt, index, &mut name) else {
+        return Ok(false);
+    };
+    judge_file(rt, output, &name[..length])?;
+    Ok(true)
 }
 
-fn judge_argument(index: usize) {
-    let mut name = io::buffer();
-    let length = argument(index, &mut name);
-    judge_file(&name[..length]);
-}
-
-fn main() {
-    let count = os::arg_count();
-    if count < 2 {
-        io::write_all(STDERR_FILENO, b"usage: pica_check FILE..\n");
+fn main(rt: HostRuntime) -> io::Result<()> {
+    let mut output = rt.stdout();
+    if !judge_argument(&rt, &mut output, 1)? {
+        return eprintln!(rt; "usage: pica_check FILE..");
     }
-    for index in 1..count {
-        judge_argument(index);
+    for index in 2..usize::MAX {
+        if !judge_argument(&rt, &mut output, index)? {
+            break;
+        }
     }
+    Ok(())
 }

@@ -2,22 +2,25 @@
 
 #![tactic(auto)]
 
-use libc::{STDIN_FILENO, STDOUT_FILENO};
+use inputs::read_what_comes;
 use listing::{Written, summarize};
+use std::io;
+use std::io::Write;
 use text::refused_line;
 
-// One byte more than a library may have is read, so that a longer one is refused and not cut. The text has room for a record for each of 16 executables.
-fn main() {
+// One byte more than a library may have is read, so that a longer one is refused and not cut; where a read
+// fails, what came before it is judged. The text has room for a record for each of 16 executables.
+fn main(rt: HostRuntime) -> io::Result<()> {
     let mut bytes = [0u8; 65537];
-    let count = io::read_full(STDIN_FILENO, &mut bytes);
+    let (count, _) = read_what_comes(&mut rt.stdin(), &mut bytes);
     let mut text = [0u8; 1280];
     match summarize(&bytes[..count], &mut text) {
         Written::Bytes(written) => {
-            let size = io::count(written as isize, &text);
-            io::write_all(STDOUT_FILENO, &text[..size]);
+            let size = text.len().min(written as usize);
+            rt.stdout().write_all(&text[..size])
         }
         Written::Refused { number, place } => {
-            io::write_all(STDOUT_FILENO, &refused_line(number, place));
+            rt.stdout().write_all(&refused_line(number, place))
         }
     }
 }

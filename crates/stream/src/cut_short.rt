@@ -1,19 +1,15 @@
 // The line of an input that is cut short.
-use libc::STDOUT_FILENO;
+use std::io;
+use std::io::Write;
 
-fn write_got(got: usize) {
-    io::write_all(STDOUT_FILENO, b"cut short: ");
-    io::print_decimal(STDOUT_FILENO, got as u64);
-    io::write_all(STDOUT_FILENO, b" bytes of ");
+pub(crate) fn write_cut_length<W: Write>(output: &mut W, got: usize) -> io::Result<()> {
+    writeln!(output, "cut short: {got} bytes of a length")
 }
 
-pub(crate) fn write_cut_length(got: usize) {
-    write_got(got);
-    io::write_all(STDOUT_FILENO, b"a length\n");
-}
-
-pub(crate) fn write_cut_library(got: usize, length: usize) {
-    write_got(got);
-    io::print_decimal(STDOUT_FILENO, length as u64);
-    io::write_all(STDOUT_FILENO, b"\n");
+pub(crate) fn write_cut_library<W: Write>(
+    output: &mut W,
+    got: usize,
+    length: usize,
+) -> io::Result<()> {
+    writeln!(output, "cut short: {got} bytes of {length}")
 }

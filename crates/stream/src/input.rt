@@ -1,8 +1,10 @@
-// Bytes of standard input.
-ghost use Rattle.std.specs.Prelude.{◌≤◌};
-ghost use Rattle.io.specs.Counts.{IsPrefixLen};
+// Bytes of the input.
+ghost use Rattle.std.specs.Prelude.{◌≤◌, IfOk};
+ghost use Rattle.std.specs.Counts.{IsPrefixLen};
 
-use libc::STDIN_FILENO;
+use inputs::read_full;
+use std::io;
+use std::io::Read;
 
 fn least(a: usize, b: usize) -> usize
     ensures { (result ≤ a) × (result ≤ b) }
@@ -11,25 +13,25 @@ fn least(a: usize, b: usize) -> usize
 }
 
 // Puts the next bytes at the start of `bytes`, at most `most`, and answers how many there are; fewer than fit where the input ends.
-pub(crate) fn read_some(most: usize, bytes: &mut [u8]) -> usize
-    ensures { (result ≤ most) × IsPrefixLen result bytes.new }
+pub(crate) fn read_some<R: Read>(input: &mut R, most: usize, bytes: &mut [u8]) -> io::Result<usize>
+    ensures { IfOk result (λ count. (count ≤ most) × IsPrefixLen count bytes.new) }
 {
     let size = least(most, bytes.len());
-    io::read_full(STDIN_FILENO, &mut bytes[..size])
+    read_full(input, &mut bytes[..size])
 }
 
 // Passes over the next bytes, `count` of them, and answers how many the input had. A turn that finds none is the last, so that the loop ends.
-pub(crate) fn skip(count: usize) -> usize
-    ensures { result ≤ count }
+pub(crate) fn skip<R: Read>(input: &mut R, count: usize) -> io::Result<usize>
+    ensures { IfOk result (λ passed. passed ≤ count) }
 {
-    let mut piece = io::buffer();
+    let mut piece = [0u8; 4096];
     let mut left = count;
     while 0 < left {
-        let passed = read_some(left, &mut piece);
+        let passed = read_some(input, left, &mut piece)?;
         if passed == 0 {
             break;
         }
         left -= passed;
     }
-    count - left
+    Ok(count - left)
 }

@@ -6,27 +6,32 @@
 mod lines;
 
 use lines::write_judged;
+use std::io;
+use std::io::{Read, Write};
 use stream::{Next, next_library};
 use verifier::judge;
 
 // Writes the lines of one library, and answers whether there was one.
-fn judge_next() -> bool {
+fn judge_next<R: Read, W: Write>(input: &mut R, output: &mut W) -> io::Result<bool> {
     let mut bytes = [0u8; 65537];
-    let Next::Library(kept) = next_library(&mut bytes) else {
-        return false;
+    let Next::Library(kept) = next_library(input, output, &mut bytes)? else {
+        return Ok(false);
     };
-    write_judged(judge(&bytes[..kept]));
-    true
+    write_judged(output, judge(&bytes[..kept]))?;
+    Ok(true)
 }
 
-// A proved loop has to end, and nothing says that the input does. So the loop counts its turns down, from a number that no run uses up.
-fn judge_every_library() {
-    let mut turns = u64::MAX;
-    while turns > 0 && judge_next() {
-        turns -= 1;
+// A proved loop has to end, and nothing says that the input does. So the loop counts its turns, up to a
+// number that no run uses up.
+fn judge_every_library<R: Read, W: Write>(input: &mut R, output: &mut W) -> io::Result<()> {
+    for _ in 0..u64::MAX {
+        if !judge_next(input, output)? {
+            break;
+        }
     }
+    Ok(())
 }
 
-fn main() {
-    judge_every_library();
+fn main(rt: HostRuntime) -> io::Result<()> {
+    judge_every_library(&mut rt.stdin(), &mut rt.stdout())
 }

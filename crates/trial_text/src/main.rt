@@ -3,56 +3,58 @@
 
 #![tactic(auto)]
 
-use libc::STDOUT_FILENO;
 use listing::{Written, list, summarize};
+use std::io;
+use std::io::{Read, Write};
 use stream::{Next, next_library};
 use text::refused_line;
 
 // The trial does not lean on the promise that the bytes written are inside the text.
-fn write_text(answer: Written, text: &[u8]) {
+fn write_text<W: Write>(output: &mut W, answer: Written, text: &[u8]) -> io::Result<()> {
     match answer {
         Written::Bytes(written) => {
-            let size = io::count(written as isize, text);
-            io::write_all(STDOUT_FILENO, &text[..size]);
+            let size = text.len().min(written as usize);
+            output.write_all(&text[..size])
         }
-        Written::Refused { number, place } => {
-            io::write_all(STDOUT_FILENO, &refused_line(number, place));
-        }
+        Written::Refused { number, place } => output.write_all(&refused_line(number, place)),
     }
 }
 
-fn write_listing(file: &[u8]) {
+fn write_listing<W: Write>(output: &mut W, file: &[u8]) -> io::Result<()> {
     let mut text = [0u8; 40960];
     let answer = list(file, &mut text);
-    write_text(answer, &text);
+    write_text(output, answer, &text)
 }
 
-fn write_report(file: &[u8]) {
+fn write_report<W: Write>(output: &mut W, file: &[u8]) -> io::Result<()> {
     let mut text = [0u8; 1280];
     let answer = summarize(file, &mut text);
-    write_text(answer, &text);
+    write_text(output, answer, &text)
 }
 
 // Writes the text of one library, and answers whether there was one.
-fn write_next() -> bool {
+fn write_next<R: Read, W: Write>(input: &mut R, output: &mut W) -> io::Result<bool> {
     let mut bytes = [0u8; 65537];
-    let Next::Library(kept) = next_library(&mut bytes) else {
-        return false;
+    let Next::Library(kept) = next_library(input, output, &mut bytes)? else {
+        return Ok(false);
     };
     let file = &bytes[..kept];
-    write_listing(file);
-    write_report(file);
-    true
+    write_listing(output, file)?;
+    write_report(output, file)?;
+    Ok(true)
 }
 
-// A proved loop has to end, and nothing says that the input does. So the loop counts its turns down, from a number that no run uses up.
-fn write_every_library() {
-    let mut turns = u64::MAX;
-    while turns > 0 && write_next() {
-        turns -= 1;
+// A proved loop has to end, and nothing says that the input does. So the loop counts its turns, up to a
+// number that no run uses up.
+fn write_every_library<R: Read, W: Write>(input: &mut R, output: &mut W) -> io::Result<()> {
+    for _ in 0..u64::MAX {
+        if !write_next(input, output)? {
+            break;
+        }
     }
+    Ok(())
 }
 
-fn main() {
-    write_every_library();
+fn main(rt: HostRuntime) -> io::Result<()> {
+    write_every_library(&mut rt.stdin(), &mut rt.stdout())
 }

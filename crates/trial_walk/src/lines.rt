@@ -1,38 +1,30 @@
 // The line of a walk.
-use libc::STDOUT_FILENO;
+use std::io;
+use std::io::Write;
 use walk::Walked;
 
-fn write_word(word: u16) {
-    io::write_all(STDOUT_FILENO, b" ");
-    io::print_decimal(STDOUT_FILENO, word as u64);
-}
-
 // The words of the first steps, as many as the list has, and dots if there were more.
-fn write_words(steps: u32, fetched: &[u16]) {
-    for i in 0..fetched.len() {
-        if i < steps as usize {
-            write_word(fetched[i]);
-        }
+fn write_words<W: Write>(output: &mut W, steps: u32, fetched: &[u16]) -> io::Result<()> {
+    for word in fetched.iter().take(steps as usize) {
+        write!(output, " {word}")?;
     }
     if fetched.len() < steps as usize {
-        io::write_all(STDOUT_FILENO, b" ...");
+        write!(output, " ...")?;
     }
+    Ok(())
 }
 
-pub(crate) fn write_walk(answer: Walked, fetched: &[u16]) {
+pub(crate) fn write_walk<W: Write>(
+    output: &mut W,
+    answer: Walked,
+    fetched: &[u16],
+) -> io::Result<()> {
     match answer {
         Walked::Steps(steps) => {
-            io::write_all(STDOUT_FILENO, b"steps ");
-            io::print_decimal(STDOUT_FILENO, steps as u64);
-            io::write_all(STDOUT_FILENO, b" fetched");
-            write_words(steps, fetched);
+            write!(output, "steps {steps} fetched")?;
+            write_words(output, steps, fetched)?;
+            writeln!(output)
         }
-        Walked::Refused { number, place } => {
-            io::write_all(STDOUT_FILENO, b"refused ");
-            io::print_decimal(STDOUT_FILENO, number as u64);
-            io::write_all(STDOUT_FILENO, b" ");
-            io::print_hex(STDOUT_FILENO, place as u64, 8);
-        }
+        Walked::Refused { number, place } => writeln!(output, "refused {number} {place:08x}"),
     }
-    io::write_all(STDOUT_FILENO, b"\n");
 }

@@ -7,11 +7,13 @@ mod lines;
 
 use binary::{ByteOffset, Range, bytes_of, tail, u8_at};
 use lines::write_walk;
+use std::io;
+use std::io::{Read, Write};
 use stream::{Next, next_library};
 use walk::walk;
 
 // Settings are one byte for the executable, 16 bools, 4 bytes x, and the truth list.
-fn walk_with(file: &[u8], settings: &[u8]) {
+fn walk_with<W: Write>(output: &mut W, file: &[u8], settings: &[u8]) -> io::Result<()> {
     let executable = u8_at(settings, ByteOffset(0)) as u32;
     let bools = Range {
         start: ByteOffset(1),
@@ -30,42 +32,52 @@ fn walk_with(file: &[u8], settings: &[u8]) {
         tail(settings, ByteOffset(21)),
         &mut fetched,
     );
-    write_walk(answer, &fetched);
+    write_walk(output, answer, &fetched)
 }
 
 // Walks with the next settings, and answers whether there were any.
-fn walk_next(file: &[u8]) -> bool {
+fn walk_next<R: Read, W: Write>(input: &mut R, output: &mut W, file: &[u8]) -> io::Result<bool> {
     let mut bytes = [0u8; 65537];
-    let Next::Library(kept) = next_library(&mut bytes) else {
-        return false;
+    let Next::Library(kept) = next_library(input, output, &mut bytes)? else {
+        return Ok(false);
     };
     if kept == 0 {
-        return false;
+        return Ok(false);
     }
-    walk_with(file, &bytes[..kept]);
-    true
+    walk_with(output, file, &bytes[..kept])?;
+    Ok(true)
 }
 
-// A proved loop has to end, and nothing says that the input does. So this loop and the next count their turns down, from a number that no run uses up.
-fn walk_with_every_setting(file: &[u8]) {
-    let mut turns = u64::MAX;
-    while turns > 0 && walk_next(file) {
-        turns -= 1;
+// A proved loop has to end, and nothing says that the input does. So this loop and the next count their
+// turns, up to a number that no run uses up.
+fn walk_with_every_setting<R: Read, W: Write>(
+    input: &mut R,
+    output: &mut W,
+    file: &[u8],
+) -> io::Result<()> {
+    for _ in 0..u64::MAX {
+        if !walk_next(input, output, file)? {
+            break;
+        }
     }
+    Ok(())
 }
 
-fn walk_next_library() -> bool {
+fn walk_next_library<R: Read, W: Write>(input: &mut R, output: &mut W) -> io::Result<bool> {
     let mut bytes = [0u8; 65537];
-    let Next::Library(kept) = next_library(&mut bytes) else {
-        return false;
+    let Next::Library(kept) = next_library(input, output, &mut bytes)? else {
+        return Ok(false);
     };
-    walk_with_every_setting(&bytes[..kept]);
-    true
+    walk_with_every_setting(input, output, &bytes[..kept])?;
+    Ok(true)
 }
 
-fn main() {
-    let mut turns = u64::MAX;
-    while turns > 0 && walk_next_library() {
-        turns -= 1;
+fn main(rt: HostRuntime) -> io::Result<()> {
+    let (mut input, mut output) = (rt.stdin(), rt.stdout());
+    for _ in 0..u64::MAX {
+        if !walk_next_library(&mut input, &mut output)? {
+            break;
+        }
     }
+    Ok(())
 }

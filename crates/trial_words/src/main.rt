@@ -2,47 +2,49 @@
 
 #![tactic(auto)]
 
-mod hex;
 mod line;
 
 use binary::{ByteOffset, u32_at};
-use libc::{STDIN_FILENO, STDOUT_FILENO};
+use inputs::read_full;
 use line::write_line;
+use std::io;
+use std::io::{Read, Write};
 
-fn write_cut_short(left: usize) {
-    io::write_all(STDOUT_FILENO, b"cut short: ");
-    io::print_decimal(STDOUT_FILENO, left as u64);
-    io::write_all(STDOUT_FILENO, b" bytes left over\n");
+fn write_cut_short<W: Write>(output: &mut W, left: usize) -> io::Result<()> {
+    writeln!(output, "cut short: {left} bytes left over")
 }
 
 // A line for each whole word, and one for the bytes that are left over.
-fn write_lines(bytes: &[u8]) {
-    let mut at = 0;
-    while 4 <= bytes.len() - at {
-        write_line(u32_at(bytes, ByteOffset(at as u64)));
-        at += 4;
+fn write_lines<W: Write>(output: &mut W, bytes: &[u8]) -> io::Result<()> {
+    for word in bytes.chunks_exact(4) {
+        write_line(output, u32_at(word, ByteOffset(0)))?;
     }
-    if at < bytes.len() {
-        write_cut_short(bytes.len() - at);
+    let left = bytes.len() % 4;
+    if 0 < left {
+        write_cut_short(output, left)?;
     }
+    Ok(())
 }
 
 // Reads once and answers whether to go on. 4 divides the buffer's length, so no word lies in two reads; it is short so that the trial takes two.
-fn write_some() -> bool {
+fn write_some<R: Read, W: Write>(input: &mut R, output: &mut W) -> io::Result<bool> {
     let mut bytes = [0u8; 1024];
-    let n = io::read_full(STDIN_FILENO, &mut bytes);
-    write_lines(&bytes[..n]);
-    n == bytes.len()
+    let n = read_full(input, &mut bytes)?;
+    write_lines(output, &bytes[..n])?;
+    Ok(n == bytes.len())
 }
 
-// A proved loop has to end, and nothing says that the input does. So the loop counts its turns down, from a number that no run uses up.
-fn write_every_line() {
-    let mut turns = u64::MAX;
-    while turns > 0 && write_some() {
-        turns -= 1;
+// A proved loop has to end, and nothing says that the input does. So the loop counts its turns, up to a
+// number that no run uses up.
+fn write_every_line<R: Read, W: Write>(input: &mut R, output: &mut W) -> io::Result<()> {
+    for _ in 0..u64::MAX {
+        if !write_some(input, output)? {
+            break;
+        }
     }
+    Ok(())
 }
 
-fn main() {
-    write_every_line();
+fn main(rt: HostRuntime) -> io::Result<()> {
+    write_every_line(&mut rt.stdin(), &mut rt.stdout())
 }
