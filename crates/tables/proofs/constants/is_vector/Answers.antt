@@ -17,28 +17,13 @@ returns-then-not-is_float24 c =
 pub returns-then-not-is_float24-2 : goal.returns-then-not-is_float24-2
 unfolding constant_if
 returns-then-not-is_float24-2 c =
-    rw (
-      le-leb _ _ c.if-e-gt95.false,
-      sym c.is_float24.ensures ∙ c.if-not-is_float24.false,
-      sym c.is_float24-2.ensures ∙ c.if-not-is_float24-2.true,
-    )
+    rw (le-leb _ _ c.if-e-gt95.false, sym c.is_float24.ensures ∙ c.if-not-is_float24.false, sym c.is_float24-2.ensures ∙ c.if-not-is_float24-2.true)
 
 pub returns-then-not-is_float24-3 : goal.returns-then-not-is_float24-3
 unfolding constant_if
 returns-then-not-is_float24-3 c =
-    rw (
-      le-leb _ _ c.if-e-gt95.false,
-      sym c.is_float24.ensures ∙ c.if-not-is_float24.false,
-      sym c.is_float24-2.ensures ∙ c.if-not-is_float24-2.false,
-      sym c.is_float24-3.ensures ∙ c.if-not-is_float24-3.true,
-    )
+    rw (le-leb _ _ c.if-e-gt95.false, sym c.is_float24.ensures ∙ c.if-not-is_float24.false, sym c.is_float24-2.ensures ∙ c.if-not-is_float24-2.false, sym c.is_float24-3.ensures ∙ c.if-not-is_float24-3.true)
 
 pub returns : goal.returns
 returns c =
-    rw (
-      le-leb _ _ c.if-e-gt95.false,
-      sym c.is_float24.ensures ∙ c.if-not-is_float24.false,
-      sym c.is_float24-2.ensures ∙ c.if-not-is_float24-2.false,
-      sym c.is_float24-3.ensures ∙ c.if-not-is_float24-3.false,
-      c.is_float24-4.ensures,
-    ) (sym (good_if _ _))
+    rw (le-leb _ _ c.if-e-gt95.false, sym c.is_float24.ensures ∙ c.if-not-is_float24.false, sym c.is_float24-2.ensures ∙ c.if-not-is_float24-2.false, sym c.is_float24-3.ensures ∙ c.if-not-is_float24-3.false, c.is_float24-4.ensures) (sym (good_if _ _))
