@@ -22,36 +22,19 @@ returns-then-unknown c =
 pub returns-then-operators : goal.returns-then-operators
 unfolding word_fault
 returns-then-operators c =
-    rw (
-      told is_unknown c.control_of-control.ensures c.is_unknown-unknown.ensures c.if-unknown.false,
-      told bad_operators c.compare_operators_of.ensures c.has_bad_operators-operators.ensures c.if-operators.true,
-    )
+    rw (told is_unknown c.control_of-control.ensures c.is_unknown-unknown.ensures c.if-unknown.false, told bad_operators c.compare_operators_of.ensures c.has_bad_operators-operators.ensures c.if-operators.true)
 
 pub returns-then-undescribed : goal.returns-then-undescribed
 unfolding word_fault
 returns-then-undescribed c =
-    rw (
-      told is_unknown c.control_of-control.ensures c.is_unknown-unknown.ensures c.if-unknown.false,
-      told bad_operators c.compare_operators_of.ensures c.has_bad_operators-operators.ensures c.if-operators.false,
-      told (undescribed c.args.descriptors) c.descriptor_of.ensures c.is_undescribed-undescribed.ensures c.if-undescribed.true,
-    )
+    rw (told is_unknown c.control_of-control.ensures c.is_unknown-unknown.ensures c.if-unknown.false, told bad_operators c.compare_operators_of.ensures c.has_bad_operators-operators.ensures c.if-operators.false, told (undescribed c.args.descriptors) c.descriptor_of.ensures c.is_undescribed-undescribed.ensures c.if-undescribed.true)
 
 pub returns-then-register : goal.returns-then-register
 unfolding word_fault
 returns-then-register c =
-    rw (
-      told is_unknown c.control_of-control.ensures c.is_unknown-unknown.ensures c.if-unknown.false,
-      told bad_operators c.compare_operators_of.ensures c.has_bad_operators-operators.ensures c.if-operators.false,
-      told (undescribed c.args.descriptors) c.descriptor_of.ensures c.is_undescribed-undescribed.ensures c.if-undescribed.false,
-      told bad_register c.control_of-control.ensures c.has_bad_register-register.ensures c.if-register.true,
-    )
+    rw (told is_unknown c.control_of-control.ensures c.is_unknown-unknown.ensures c.if-unknown.false, told bad_operators c.compare_operators_of.ensures c.has_bad_operators-operators.ensures c.if-operators.false, told (undescribed c.args.descriptors) c.descriptor_of.ensures c.is_undescribed-undescribed.ensures c.if-undescribed.false, told bad_register c.control_of-control.ensures c.has_bad_register-register.ensures c.if-register.true)
 
 pub returns : goal.returns
 unfolding word_fault
 returns c =
-    rw (
-      told is_unknown c.control_of-control.ensures c.is_unknown-unknown.ensures c.if-unknown.false,
-      told bad_operators c.compare_operators_of.ensures c.has_bad_operators-operators.ensures c.if-operators.false,
-      told (undescribed c.args.descriptors) c.descriptor_of.ensures c.is_undescribed-undescribed.ensures c.if-undescribed.false,
-      told bad_register c.control_of-control.ensures c.has_bad_register-register.ensures c.if-register.false,
-    )
+    rw (told is_unknown c.control_of-control.ensures c.is_unknown-unknown.ensures c.if-unknown.false, told bad_operators c.compare_operators_of.ensures c.has_bad_operators-operators.ensures c.if-operators.false, told (undescribed c.args.descriptors) c.descriptor_of.ensures c.is_undescribed-undescribed.ensures c.if-undescribed.false, told bad_register c.control_of-control.ensures c.has_bad_register-register.ensures c.if-register.false)
