@@ -1,5 +1,5 @@
 // Bytes of the input.
-ghost use Rattle.std.specs.Prelude.{◌≤◌, IfOk};
+ghost use Rattle.std.specs.Prelude.{◌≡◌, ◌≤◌, length, IfOk, OnErr};
 ghost use Rattle.std.specs.Counts.{IsPrefixLen};
 
 use inputs::read_full;
@@ -14,7 +14,8 @@ fn least(a: usize, b: usize) -> usize
 
 // Puts the next bytes at the start of `bytes`, at most `most`, and answers how many there are; fewer than fit where the input ends.
 pub(crate) fn read_some<R: Read>(input: &mut R, most: usize, bytes: &mut [u8]) -> io::Result<usize>
-    ensures { IfOk result (λ count. (count ≤ most) × IsPrefixLen count bytes.new) }
+    ensures read { IfOk result (λ count. (count ≤ most) × IsPrefixLen count bytes.new) }
+    ensures failed { OnErr result (length bytes.new ≡ length bytes.old) }
 {
     let size = least(most, bytes.len());
     read_full(input, &mut bytes[..size])

@@ -5,7 +5,7 @@
 mod cut_short;
 mod input;
 
-ghost use Rattle.std.specs.Prelude.{IfOk};
+ghost use Rattle.std.specs.Prelude.{◌≡◌, length, IfOk, OnErr};
 ghost use Rattle.std.specs.Counts.{IsPrefixLen};
 ghost use Rattle.stream.specs.Kept.{kept};
 
@@ -51,7 +51,8 @@ pub fn next_library<R: Read, W: Write>(
     output: &mut W,
     bytes: &mut [u8; 65537],
 ) -> io::Result<Next>
-    ensures { IfOk result (λ next. IsPrefixLen (kept next) bytes.new) }
+    ensures next { IfOk result (λ next. IsPrefixLen (kept next) bytes.new) }
+    ensures failed { OnErr result (length bytes.new ≡ length bytes.old) }
 {
     let mut length = [0u8; 4];
     let got = read_full(input, &mut length)?;
