@@ -2,9 +2,7 @@
 use mathlib.Core.Path.{◌≡◌, refl, sym, ◌∙◌}
 use Prim.Native.Nat.{ℕ, zero, suc, ◌+◌, ◌-◌, ◌≤◌, ◌<◌}
 use native.Mathlib.Omega.{arith}
-use Rattle.answer.specs.Faults.{or_else, first_in}
-use Rattle.answer.specs.declared.Fault.{Fault}
-use Rattle.answer.specs.declared.Fault.TheVariants.{Nothing, At}
+use Rattle.answer.specs.Faults.{Fault, Nothing, At, or_else, first_in}
 
 pub or_assoc : (a b c : Fault) → or_else (or_else a b) c ≡ or_else a (or_else b c)
 or_assoc (At n p) b c = refl

@@ -1,6 +1,8 @@
 -- What a call gives back, as document 01 counts it ('Numbers given back'): values, or a refusal. An enum that can refuse is read as one of these by a definition of its crate.
 -- Assumes nothing.
-use Rattle.std.specs.Prelude.{ℕ, Bool, cond, ltb}
+use Rattle.std.specs.Prelude.{ℕ, Bool, cond, ltb, Result, Ok, Err}
+use Rattle.answer.specs.Reasons.{number_of}
+use Rattle.answer.specs.declared.Refusal.{Refusal}
 
 -- the values; or a refusal's number and place, and no other number
 pub data Answer (A : Type 0) : Type 0 where
@@ -19,3 +21,8 @@ or_missing index count a = cond (ltb index count) a (refused 29 0)
 -- 30: 'lent buffer too short'; else what follows
 abbrev pub or_short : {A : Type 0} → Bool → Answer A → Answer A
 or_short short a = cond short (refused 30 0) a
+
+-- the code's answer
+abbrev pub answered : {A : Type 0} → Result A Refusal → Answer A
+answered (Ok a) = given a
+answered (Err r) = refused (number_of r.reason) r.place

@@ -1,8 +1,13 @@
 -- 'The first fault met in this order is the one reported' (document 01, 'Numbers given back').
 -- Assumes nothing.
-use Rattle.std.specs.Prelude.{ℕ, zero, suc, ◌+◌, Bool, true, false}
-use Rattle.answer.specs.declared.Fault.{Fault}
-use Rattle.answer.specs.declared.Fault.TheVariants.{Nothing, At}
+use Rattle.std.specs.Prelude.{ℕ, zero, suc, ◌+◌, Bool, true, false, Result, Ok, Err}
+use Rattle.answer.specs.Reasons.{number_of}
+use Rattle.answer.specs.declared.Refusal.{Refusal}
+
+-- no fault; or a fault, its number and place
+pub data Fault : Type 0 where
+  Nothing : Fault
+  At : ℕ → ℕ → Fault
 
 -- a fault, its number and place, where a test holds
 abbrev pub fault_if : Bool → ℕ → ℕ → Fault
@@ -18,3 +23,8 @@ or_else Nothing next = next
 unfoldable pub first_in : (ℕ → Fault) → ℕ → ℕ → Fault
 first_in f i zero = Nothing
 first_in f i (suc n) = or_else (f i) (first_in f (i + 1) n)
+
+-- the code's answer
+abbrev pub faulted : Result Unit Refusal → Fault
+faulted (Ok u) = Nothing
+faulted (Err r) = At (number_of r.reason) r.place

@@ -8,11 +8,11 @@ ghost use Rattle.binary.specs.Bytes.{u8_at, u16_at, u32_at};
 ghost use Rattle.binary.specs.Ranges.{range_of, inside, share};
 
 // The address of a word, counted in words from the start of the opcode table.
-#[derive(Clone, Copy)]
+#[derive(Clone, Copy, Debug, PartialEq, Eq, PartialOrd, Ord)]
 pub struct WordAddress(pub u32);
 
 // The offset of a byte. Offsets that a file holds have 32 bits, their sums more.
-#[derive(Clone, Copy)]
+#[derive(Clone, Copy, Debug, PartialEq, Eq, PartialOrd, Ord)]
 pub struct ByteOffset(pub u64);
 
 // Where a word starts, counted in bytes from the start of the opcode table: the one way from a word address to a byte offset.
@@ -26,22 +26,20 @@ pub fn offset_of_word(a: WordAddress) -> ByteOffset
 pub fn tail(s: &[u8], at: ByteOffset) -> &[u8]
     ensures { result.now ≡ drop at.0 s.now }
 {
-    let from = at.0 as usize;
-    if from <= s.len() { &s[from..] } else { &s[..0] }
+    &s[s.len().min(at.0 as usize)..]
 }
 
 pub fn u8_at(s: &[u8], at: ByteOffset) -> u8
     ensures { result ≡ u8_at s.now at.0 }
 {
-    let i = at.0 as usize;
-    if i < s.len() { s[i] } else { 0 }
+    s.get(at.0 as usize).copied().unwrap_or(0)
 }
 
 // The number of two bytes, the low one first.
 pub fn u16_of(low: u8, high: u8) -> u16
     ensures { result ≡ low + high * 256 }
 {
-    low as u16 + high as u16 * 256
+    u16::from_le_bytes([low, high])
 }
 
 // The number of two halves, the low one first.
@@ -56,13 +54,10 @@ pub fn u16_at(s: &[u8], at: ByteOffset) -> u16
     ensures { result ≡ u16_at s.now at.0 }
 {
     let i = at.0 as usize;
-    if s.len() <= i {
-        return 0;
-    }
-    if 2 <= s.len() - i {
+    if 2 <= s.len().saturating_sub(i) {
         u16_of(s[i], s[i + 1])
     } else {
-        u16_of(s[i], 0)
+        u16::from(u8_at(s, at))
     }
 }
 
@@ -70,18 +65,19 @@ pub fn u32_at(s: &[u8], at: ByteOffset) -> u32
     ensures { result ≡ u32_at s.now at.0 }
 {
     let i = at.0 as usize;
-    if s.len() <= i {
-        return 0;
-    }
-    if 4 <= s.len() - i {
-        u32_of(u16_of(s[i], s[i + 1]), u16_of(s[i + 2], s[i + 3]))
+    if 4 <= s.len().saturating_sub(i) {
+        u32::from_le_bytes([s[i], s[i + 1], s[i + 2], s[i + 3]])
     } else {
-        u32_of(u16_at(s, at), u16_at(s, ByteOffset(at.0 + 2)))
+        let rest = tail(s, at);
+        u32_of(
+            u16_at(rest, ByteOffset(0)),
+            u16::from(u8_at(rest, ByteOffset(2))),
+        )
     }
 }
 
 // A run of `size` bytes from `start` on.
-#[derive(Clone, Copy)]
+#[derive(Clone, Copy, Debug, PartialEq, Eq)]
 pub struct Range {
     pub start: ByteOffset,
     pub size: u64,
@@ -91,8 +87,10 @@ pub struct Range {
 pub fn range_of(start: ByteOffset, count: u32, size: u32) -> Range
     ensures { result ≡ range_of start count size }
 {
-    let bytes = count as u64 * size as u64;
-    Range { start, size: bytes }
+    Range {
+        start,
+        size: count as u64 * size as u64,
+    }
 }
 
 // The bytes of a range, as far as the file has them.
@@ -100,12 +98,7 @@ pub fn bytes_of(file: &[u8], r: Range) -> &[u8]
     ensures { result.now ≡ take r.size (drop r.start.0 file.now) }
 {
     let rest = tail(file, r.start);
-    let size = r.size as usize;
-    if size <= rest.len() {
-        &rest[..size]
-    } else {
-        rest
-    }
+    rest.get(..r.size as usize).unwrap_or(rest)
 }
 
 // Whether the range lies inside the file. The test subtracts, so that it holds for every range.
@@ -116,19 +109,9 @@ pub fn is_inside(r: Range, file: &[u8]) -> bool
     r.size <= length && r.start.0 <= length - r.size
 }
 
-// Whether the ranges share a byte: neither is empty, and where the later one starts lies in the other. It subtracts for the same reason.
+// Whether the ranges share a byte: each starts before the other ends. A distance stops at 0, and is below no size of 0.
 pub fn shares_byte(a: Range, b: Range) -> bool
     ensures { result ≡ share a b }
 {
-    if a.size == 0 {
-        return false;
-    }
-    if b.size == 0 {
-        return false;
-    }
-    if a.start.0 <= b.start.0 {
-        b.start.0 - a.start.0 < a.size
-    } else {
-        a.start.0 - b.start.0 < b.size
-    }
+    b.start.0.saturating_sub(a.start.0) < a.size && a.start.0.saturating_sub(b.start.0) < b.size
 }

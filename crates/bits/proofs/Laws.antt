@@ -2,10 +2,10 @@
 -- Every layout of a word, of a descriptor or of a float is an instance. Assumes nothing.
 use mathlib.Core.Path.{◌≡◌, refl, ap, ap₂, sym, ◌∙◌}
 use mathlib.Core.List.{List, [], ◌∷◌}
-use Prim.Native.Nat.{ℕ, ◌+◌, ◌*◌, ◌/◌, ◌%◌, ◌^◌, ◌<◌}
-use native.Mathlib.Nat.{add_assoc, mul_comm, mul_assoc, add-mul, mod-lt, div-one}
+use Prim.Native.Nat.{ℕ, ◌+◌, ◌*◌, ◌/◌, ◌%◌, ◌^◌, ◌<◌, ◌≤◌}
+use native.Mathlib.Nat.{div-eq_of_lt, mod-eq_of_lt, lt_of_lt_of_le, lt_of_le_of_lt, add_assoc, mul_comm, mul_assoc, add-mul, mod-lt, div-one}
 use native.Mathlib.Omega.{arith}
-use lib.Pow.{pow_pos, pow-add, shl_exact, split, high, low, shr-shr, shr_lt}
+use lib.Pow.{pow_mono, shr_le, pow_pos, pow-add, shl_exact, split, high, low, shr-shr, shr_lt}
 use lib.Pow.{field as div-of-mod}
 use lib.Dec.{T, ltb, ltb→lt, lt→ltb}
 use lib.Arith.{digits_lt}
@@ -15,6 +15,15 @@ use Rattle.bits.specs.Fields.{field, total, fields_from, pack, fit}
 -- a one shifted to bit n, in a word of 32 bits
 pub shifted_one : (n : ℕ) → n < 32 → 1 * 2 ^ n % 2 ^ 32 ≡ 2 ^ n
 shifted_one n h = shl_exact 1 n 32 (omega arith) (omega arith) ∙ omega arith
+
+-- past its end there is nothing, and more bits than it has are all that it has
+pub shifted_out : (w pos : ℕ) → w < 2 ^ 32 → 32 ≤ pos → w / 2 ^ pos ≡ 0
+shifted_out w pos h p = div-eq_of_lt (lt_of_lt_of_le h (pow_mono {i = 32} p))
+
+pub all_kept : (w pos width : ℕ) → w < 2 ^ 32 → 32 ≤ width → w / 2 ^ pos % 2 ^ width ≡ w / 2 ^ pos
+all_kept w pos width h p = mod-eq_of_lt (lt_of_le_of_lt (shr_le w pos) (lt_of_lt_of_le h (pow_mono {i = 32} p)))
+
+pub ruleset in_one_word = (shifted_one, shifted_out, all_kept)
 
 -- a field fits its width
 pub field_lt : (pos width w : ℕ) → field pos width w < 2 ^ width

@@ -6,16 +6,13 @@ ghost use Rattle.std.specs.Prelude.{◌≡◌};
 ghost use Rattle.bits.specs.Fields.{field};
 
 // The `width` bits of `word` from bit `pos` on; bits past the word's end are 0.
+#[tactic(auto, using(crate::proofs::Laws::in_one_word))]
 pub fn field(word: u32, pos: u32, width: u32) -> u32
     ensures { result ≡ field pos width word }
 {
-    if 32 <= pos {
-        return 0;
-    }
-    let high = word >> pos;
-    if 32 <= width {
-        high
-    } else {
-        high % (1 << width)
+    let above = word.checked_shr(pos).unwrap_or(0);
+    match 1u32.checked_shl(width) {
+        Some(limit) => above % limit,
+        None => above,
     }
 }

@@ -2,7 +2,7 @@
 -- Assumes nothing.
 use Rattle.std.specs.Prelude.{ℕ, ◌+◌, ◌*◌, ◌%◌, Bool, not, ◌&&◌, ◌||◌, List, [], ◌∷◌, eqb, leb, ltb, length, drop}
 use Rattle.answer.specs.Faults.{fault_if, or_else}
-use Rattle.answer.specs.declared.Fault.{Fault}
+use Rattle.answer.specs.Faults.{Fault}
 use Rattle.binary.specs.Addresses.{byte_offset, word_address}
 use Rattle.binary.specs.Bytes.{u8_at, u16_at, u32_at}
 use Rattle.binary.specs.Ranges.{inside}

@@ -2,7 +2,7 @@
 -- Assumes nothing.
 use Rattle.std.specs.Prelude.{ℕ, ◌+◌, ◌*◌, Bool, not, ◌||◌, List, [], ◌∷◌, eqb, ltb, length, drop}
 use Rattle.answer.specs.Faults.{fault_if, or_else}
-use Rattle.answer.specs.declared.Fault.{Fault}
+use Rattle.answer.specs.Faults.{Fault}
 use Rattle.binary.specs.Addresses.{byte_offset}
 use Rattle.binary.specs.Bytes.{u32_at}
 use Rattle.container.specs.Placement.{table_at, misplaced, words_meet, words_meet_table}

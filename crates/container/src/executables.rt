@@ -1,9 +1,10 @@
 // A DVLE: refusals 13 to 17.
 ghost use Rattle.std.specs.Prelude.{◌≡◌, ◌<◌, ◌^◌, length};
+ghost use Rattle.answer.specs.Faults.{faulted};
 ghost use Rattle.container.specs.Executable.{executable_base, executable_of, misplaced_section, bad_entry, misplaced_tables, overlapped_by_tables, executable_fault};
 
 use crate::placement::{Table, is_misplaced, table_at, words_meet, words_meet_table};
-use answer::Fault;
+use answer::{Reason, Refusal};
 use binary::{ByteOffset, Range, WordAddress, is_inside, tail, u8_at, u16_at, u32_at};
 
 // "DVLE", as a little-endian number.
@@ -57,94 +58,76 @@ pub fn executable_of(file: &[u8], index: u32) -> Executable
 }
 
 // Whether a DVLE's offset is unaligned, or its 64 bytes are outside the file or share a byte with the opcode table.
+#[tactic(auto, unfolding(crate::specs::Executable::misplaced_section))]
 fn is_misplaced_section(base: ByteOffset, words: Table, file: &[u8]) -> bool
     ensures { result ≡ misplaced_section base.0 words (length file.now) }
 {
-    if base.0 % 4 != 0 {
-        return true;
-    }
     let section = Range {
         start: base,
         size: 64,
     };
-    if is_inside(section, file) {
-        words_meet(words, section)
-    } else {
-        true
-    }
+    (base.0 % 4 != 0) | !is_inside(section, file) | words_meet(words, section)
 }
 
 // Whether it is not so that main < endmain ≤ words.
+#[tactic(auto, unfolding(crate::specs::Executable::bad_entry))]
 fn is_bad_entry(main: WordAddress, endmain: WordAddress, words: u32) -> bool
     ensures { result ≡ bad_entry main.0 endmain.0 words }
 {
-    if endmain.0 <= main.0 {
-        return true;
-    }
-    if endmain.0 <= words { false } else { true }
+    (endmain.0 <= main.0) | (words < endmain.0)
 }
 
 // Whether one of the five tables is unaligned or outside the file.
+#[tactic(auto, unfolding(crate::specs::Executable::misplaced_tables))]
 fn has_misplaced_tables(e: Executable, file: &[u8]) -> bool
     ensures { result ≡ misplaced_tables (length file.now) e }
 {
-    if is_misplaced(e.constants, 4, 20, file) {
-        return true;
-    }
-    if is_misplaced(e.labels, 4, 16, file) {
-        return true;
-    }
-    if is_misplaced(e.outputs, 4, 8, file) {
-        return true;
-    }
-    if is_misplaced(e.uniforms, 4, 8, file) {
-        return true;
-    }
-    is_misplaced(e.symbols, 1, 1, file)
+    is_misplaced(e.constants, 4, 20, file)
+        | is_misplaced(e.labels, 4, 16, file)
+        | is_misplaced(e.outputs, 4, 8, file)
+        | is_misplaced(e.uniforms, 4, 8, file)
+        | is_misplaced(e.symbols, 1, 1, file)
 }
 
 // Whether one of the five tables shares a byte with the opcode table.
+#[tactic(auto, unfolding(crate::specs::Executable::overlapped_by_tables))]
 fn words_overlap_tables(words: Table, e: Executable) -> bool
     ensures { result ≡ overlapped_by_tables words e }
 {
-    if words_meet_table(words, e.constants, 20) {
-        return true;
-    }
-    if words_meet_table(words, e.labels, 16) {
-        return true;
-    }
-    if words_meet_table(words, e.outputs, 8) {
-        return true;
-    }
-    if words_meet_table(words, e.uniforms, 8) {
-        return true;
-    }
-    words_meet_table(words, e.symbols, 1)
+    words_meet_table(words, e.constants, 20)
+        | words_meet_table(words, e.labels, 16)
+        | words_meet_table(words, e.outputs, 8)
+        | words_meet_table(words, e.uniforms, 8)
+        | words_meet_table(words, e.symbols, 1)
 }
 
 // Refusals 13 to 17 of an executable, the first that applies, at the place given. `words` is the opcode table, `most_type` the highest type allowed.
-pub fn executable_fault(file: &[u8], words: Table, index: u32, most_type: u8, place: u32) -> Fault
-    ensures { result ≡ executable_fault most_type words file.now index place }
+#[tactic(auto, unfolding(crate::specs::Executable::executable_fault))]
+pub fn executable_fault(
+    file: &[u8],
+    words: Table,
+    index: u32,
+    most_type: u8,
+    place: u32,
+) -> Result<(), Refusal>
+    ensures { faulted result ≡ executable_fault most_type words file.now index place }
 {
     let base = executable_base(file, index);
     if is_misplaced_section(base, words, file) {
-        return Fault::At { number: 13, place };
+        return Err(Reason::MisplacedExecutable.at(place));
     }
     if u32_at(file, base) != DVLE {
-        return Fault::At { number: 14, place };
+        return Err(Reason::NoExecutable.at(place));
     }
     let e = executable_of(file, index);
     if most_type < e.shader_type {
-        return Fault::At { number: 15, place };
+        return Err(Reason::UnknownType.at(place));
     }
     if is_bad_entry(e.main, e.endmain, words.count) {
-        return Fault::At { number: 16, place };
+        return Err(Reason::BadEntry.at(place));
     }
-    if has_misplaced_tables(e, file) {
-        return Fault::At { number: 17, place };
+    if has_misplaced_tables(e, file) | words_overlap_tables(words, e) {
+        return Err(Reason::MisplacedTable.at(place));
     }
-    if words_overlap_tables(words, e) {
-        return Fault::At { number: 17, place };
-    }
-    Fault::Nothing
+    Ok(())
 }

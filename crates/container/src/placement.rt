@@ -27,24 +27,17 @@ pub(crate) fn table_at(section: &[u8], base: ByteOffset, field: u64) -> Table
 }
 
 // Whether a table of entries of `size` bytes is unaligned or outside the file. A table with count 0 has no offset to test.
+#[tactic(auto, unfolding(crate::specs::Placement::misplaced))]
 pub(crate) fn is_misplaced(t: Table, align: u32, size: u32, file: &[u8]) -> bool
     requires { 0 < align }
     ensures { result ≡ misplaced align size (length file.now) t }
 {
-    if t.count == 0 {
-        return false;
-    }
-    if t.offset % align != 0 {
-        return true;
-    }
-    if is_inside(range_of(t.start, t.count, size), file) {
-        false
-    } else {
-        true
-    }
+    let outside = !is_inside(range_of(t.start, t.count, size), file);
+    (t.count != 0) & ((t.offset % align != 0) | outside)
 }
 
 // Whether the opcode table shares a byte with a range.
+#[tactic(auto, unfolding(crate::specs::Placement::words_meet))]
 pub(crate) fn words_meet(words: Table, r: Range) -> bool
     ensures { result ≡ words_meet words r }
 {

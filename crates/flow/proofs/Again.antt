@@ -6,6 +6,7 @@ use Prim.Native.Nat.{ℕ, zero, suc, ◌+◌, ◌-◌, ◌≤◌, ◌<◌}
 use native.Mathlib.Omega.{arith}
 use lib.Dec.{leb, ltb, eqb}
 use borrow.Author.Tests.{ltb-true, lt-ltb, le-leb, eqb-true}
+use Rattle.answer.specs.Answers.{given}
 use Rattle.instruction.specs.declared.flow_control.Control.{Control}
 use Rattle.instruction.specs.declared.flow_control.Control.TheVariants.{Unknown, Plain, Emit, End, Break, If, Loop, Call, Jump}
 use Rattle.flow.specs.Inside.{unless, parts_of, look_of, Reaches, Recalled, goes_on}
@@ -92,11 +93,11 @@ module _ (C : Code) where
 
   -- what is told without the tests is what they tell
   module _ (R : Rules) (m : List Bool) (x : Opens) (w p E k : ℕ) (d : Deep) where
-    pub goes_next : goes_on (C.control p) k E ≡ true → (1 ≤ k → Recalled C R m (C.control p) p k d) → Next ≡ look_of C R x w p E
+    pub goes_next : goes_on (C.control p) k E ≡ true → (1 ≤ k → Recalled C R m (C.control p) p k d) → given Next ≡ look_of C R x w p E
     unfolding look_of fault_at
     goes_next e q = on (C.control p) refl e q
       where
-        on : (i : Control) → C.control p ≡ i → goes_on i k E ≡ true → (1 ≤ k → Recalled C R m i p k d) → Next ≡ unless (fault_at C R x p E) (parts_of R (C.control p) x w p)
+        on : (i : Control) → C.control p ≡ i → goes_on i k E ≡ true → (1 ≤ k → Recalled C R m i p k d) → given Next ≡ unless (fault_at C R x p E) (parts_of R (C.control p) x w p)
         on Unknown z g f = rw z
         on Plain z g f = rw z
         on End z g f = rw z

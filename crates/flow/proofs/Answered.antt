@@ -8,23 +8,24 @@ use lib.Dec.{eqb, leb, ltb}
 use lib.ListN.{length}
 use borrow.Author.Tests.{ltb-true, leb-true}
 use Rattle.answer.specs.Answers.{Answer, given}
-use Rattle.answer.specs.declared.Fault.{Fault}
-use Rattle.answer.specs.declared.Fault.TheVariants.{Nothing, At}
+use Rattle.answer.specs.Faults.{Fault}
+use Rattle.answer.specs.Faults.{Nothing, At}
 use Rattle.instruction.specs.declared.flow_control.Control.{Control}
 use Rattle.instruction.specs.declared.flow_control.Control.TheVariants.{Unknown, Plain, Emit, End, Break, If, Loop, Call, Jump}
-use Rattle.instruction.specs.declared.operand.DescriptorId.{DescriptorId}
-use Rattle.flow.specs.Flow.{code_of, Measured, measured_by, flow_of, entry_fault, unless_refused, flow_answer}
+use Rattle.std.specs.Prelude.{Option}
+use Rattle.flow.specs.Flow.{code_of, measured_by, flow_of, entry_fault, unless_refused, flow_answer}
 use Rattle.flow.specs.Own.{next_of, own_from, own_words}
 use Rattle.flow.specs.Rules.{Code, Rules, none_open, full_rules}
 use Rattle.flow.specs.Stepping.{Settings, start}
 use Rattle.flow.specs.Visits.{Visit, Tracer, bad24, bad26, fault_at, visit, region, trace_to, spare, size, trace, main_trace, first_fault, flow_fault, total}
 use Rattle.flow.specs.WholeRun.{GoodWord, Whole}
+use Rattle.flow.specs.declared.entry.Measured.{Measured}
 use Rattle.flow.specs.declared.look.Opens.{Opens}
 use Rattle.flow.proofs.Tests.{not_bad, both, passed, last_passed}
 use Rattle.flow.proofs.WholeRun.{whole_run}
 
 -- the check does not look at descriptors
-module _ (C : Code) (d : ℕ) (u : ℕ → DescriptorId) (R : Rules) where
+module _ (C : Code) (d : ℕ) (u : ℕ → Option ℕ) (R : Rules) where
   abbrev D : Code
   D = record { words = C.words; descriptors = d; control = C.control; uses = u }
 

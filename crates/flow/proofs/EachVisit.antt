@@ -5,8 +5,9 @@ use mathlib.Core.List.{List, [], ◌∷◌, ◌++◌}
 use Prim.Native.Nat.{ℕ, ◌+◌, ◌*◌, ◌≤◌, ◌<◌}
 use native.Mathlib.Omega.{arith}
 use borrow.Author.Tests.{lt-ltb}
-use Rattle.answer.specs.declared.Fault.{Fault}
-use Rattle.answer.specs.declared.Fault.TheVariants.{Nothing, At}
+use Rattle.answer.specs.Answers.{Answer, given, refused}
+use Rattle.answer.specs.Faults.{Fault}
+use Rattle.answer.specs.Faults.{Nothing, At}
 use Rattle.instruction.specs.declared.flow_control.Control.{Control}
 use Rattle.instruction.specs.declared.flow_control.Control.TheVariants.{Unknown, Plain, Emit, End, Break, If, Loop, Call, Jump}
 use Rattle.flow.specs.Inside.{unless, parts_of, look_of, scan_of, after_part}
@@ -14,10 +15,9 @@ use Rattle.flow.specs.Own.{next_of}
 use Rattle.flow.specs.Rules.{Code, Rules, in_if, in_loop, in_call}
 use Rattle.flow.specs.Visits.{Visit, Trace, follow, and_then, unless_fault, parts, fault_at, visit, region, trace, first_fault, total}
 use Rattle.flow.specs.declared.look.Look.{Look}
-use Rattle.flow.specs.declared.look.Look.TheVariants.{Refuse, Next, One, Two}
+use Rattle.flow.specs.declared.look.Look.TheVariants.{Next, One, Two}
 use Rattle.flow.specs.declared.look.Opens.{Opens}
 use Rattle.flow.specs.declared.look.Part.{Part}
-use Rattle.flow.specs.declared.scan.Scan.TheVariants.{Go}
 use Rattle.flow.proofs.Depth.{Passed, fault_none, if_bounds, loop_bounds, call_bounds, trace_eq}
 use Rattle.flow.proofs.Marks.{flow_by, replay_flow}
 use Rattle.flow.proofs.Replay.{told}
@@ -30,14 +30,14 @@ module _ (C : Code) (R : Rules) where
   trace_of r = trace C R r.opens r.weight r.from.0 r.to.0
 
   -- a scan that goes on met no fault, so that its trace is not stopped
-  no_fault : (f : Fault) (t : ℕ) {t₁ : ℕ} → flow_by f t ≡ Go t₁ → f ≡ Nothing
+  no_fault : (f : Fault) (t : ℕ) {t₁ : ℕ} → flow_by f t ≡ given t₁ → f ≡ Nothing
   no_fault (At n q) t e = apart (cc)
   no_fault Nothing t e = refl
 
-  pub went_on : (r : Part) (t : ℕ) (m : List Bool) {t₁ : ℕ} → (scan_of C R r t m).flow ≡ Go t₁ → first_fault C R t (trace_of r).visits ≡ Nothing
+  pub went_on : (r : Part) (t : ℕ) (m : List Bool) {t₁ : ℕ} → (scan_of C R r t m).flow ≡ given t₁ → first_fault C R t (trace_of r).visits ≡ Nothing
   went_on r t m e = no_fault (first_fault C R t (trace_of r).visits) (t + total (trace_of r).visits) (sym (replay_flow C R (trace_of r).visits t m) ∙ e)
 
-  pub unstopped : (r : Part) (t : ℕ) (m : List Bool) {t₁ : ℕ} → r.to.0 ≤ C.words → (scan_of C R r t m).flow ≡ Go t₁ → (trace_of r).stopped ≡ false
+  pub unstopped : (r : Part) (t : ℕ) (m : List Bool) {t₁ : ℕ} → r.to.0 ≤ C.words → (scan_of C R r t m).flow ≡ given t₁ → (trace_of r).stopped ≡ false
   unstopped r t m h e = told C R r.opens r.weight r.from.0 r.to.0 h ∙ first_none C R t (trace_of r).visits (went_on r t m e)
 
 module _ (P : Visit → Type 0) where
@@ -76,13 +76,13 @@ module _ (C : Code) (R : Rules) (P : Visit → Type 0) (x : Opens) (w p E : ℕ)
     pub second : (trace_of C R r).stopped ≡ false → Each P (trace_of C R r').visits
     pub after : (trace_of C R r).stopped ≡ false → (trace_of C R r').stopped ≡ false → Each P rest
 
-  abbrev pub EachOf : Look → Type 0
-  EachOf (Refuse n) = Unit {0}
-  EachOf Next = Each P (trace C R x w (p + 1) E).visits
-  EachOf (One r next) = OfOne r (trace C R x w next.0 E).visits
-  EachOf (Two r next) = OfTwo r (after_part r next) (trace C R x w next.0 E).visits
+  abbrev pub EachOf : Answer Look → Type 0
+  EachOf (refused n q) = Unit {0}
+  EachOf (given Next) = Each P (trace C R x w (p + 1) E).visits
+  EachOf (given (One r next)) = OfOne r (trace C R x w next.0 E).visits
+  EachOf (given (Two r next)) = OfTwo r (after_part r next) (trace C R x w next.0 E).visits
 
-  parts_each : (i : Control) → Passed C R i x p E → Each P (and_then (parts R (trace C R) i x w p) (trace C R x w (next_of i p) E)).visits → EachOf (parts_of R i x w p)
+  parts_each : (i : Control) → Passed C R i x p E → Each P (and_then (parts R (trace C R) i x w p) (trace C R x w (next_of i p) E)).visits → EachOf (given (parts_of R i x w p))
   unfolding parts
   parts_each Unknown o e = e
   parts_each Plain o e = e
@@ -126,6 +126,6 @@ module _ (C : Code) (R : Rules) (P : Visit → Type 0) (x : Opens) (w p E : ℕ)
     each_look (At n q) z a = tt
     each_look Nothing z a = parts_each (C.control p) (fault_none C R x p E z) a
 
-    pub each_at : {k : Look} → k ≡ look_of C R x w p E → EachOf k
+    pub each_at : {k : Answer Look} → k ≡ look_of C R x w p E → EachOf k
     unfolding visit look_of
     each_at q = rw q (each_look (fault_at C R x p E) refl (tail by_word))

@@ -5,8 +5,9 @@ use native.Mathlib.Nat.{pow-suc}
 use native.Mathlib.Numerals.{add-one}
 use native.Mathlib.Omega.{arith}
 use borrow.Author.Tests.{leb-false}
-use Rattle.answer.specs.declared.Fault.{Fault}
-use Rattle.answer.specs.declared.Fault.TheVariants.{Nothing, At}
+use Rattle.answer.specs.Answers.{Answer, given, refused}
+use Rattle.answer.specs.Faults.{Fault}
+use Rattle.answer.specs.Faults.{Nothing, At}
 use Rattle.instruction.specs.declared.flow_control.Control.{Control}
 use Rattle.instruction.specs.declared.flow_control.Control.TheVariants.{Unknown, Plain, Emit, End, Break, If, Loop, Call, Jump}
 use Rattle.flow.specs.Inside.{rules_of, unless, part_of, parts_of, look_of, Weighs, Under, after_part, deep_of}
@@ -14,7 +15,7 @@ use Rattle.flow.specs.Rules.{Code, Rules, in_if, in_loop, in_call}
 use Rattle.flow.specs.Visits.{fault_at, size}
 use Rattle.flow.specs.declared.look.Allowed.{Allowed}
 use Rattle.flow.specs.declared.look.Look.{Look}
-use Rattle.flow.specs.declared.look.Look.TheVariants.{Refuse, Next, One, Two}
+use Rattle.flow.specs.declared.look.Look.TheVariants.{Next, One, Two}
 use Rattle.flow.specs.declared.look.Opens.{Opens}
 use Rattle.flow.specs.declared.look.Part.{Part}
 use Rattle.flow.proofs.Depth.{Passed, fault_none, if_bounds, loop_bounds, call_bounds, fewer, spare_if, spare_loop, spare_call}
@@ -44,14 +45,14 @@ module _ (C : Code) (R : Rules) (x : Opens) (w p E : ℕ) where
   abbrev Onward : ℕ → Type 0
   Onward q = (p < q) × (q ≤ E)
 
-  abbrev pub AllFit : Look → Type 0
-  AllFit (Refuse n) = Unit {0}
-  AllFit Next = Unit {0}
-  AllFit (One r next) = Fits r × Onward next.0
-  AllFit (Two r next) = Fits r × Fits (after_part r next) × Onward next.0
+  abbrev pub AllFit : Answer Look → Type 0
+  AllFit (refused n q) = Unit {0}
+  AllFit (given Next) = Unit {0}
+  AllFit (given (One r next)) = Fits r × Onward next.0
+  AllFit (given (Two r next)) = Fits r × Fits (after_part r next) × Onward next.0
 
   module _ (l : p < E) (h : E ≤ C.words) (y : Under R (deep_of x)) where
-    parts_fit : (i : Control) → Passed C R i x p E → AllFit (parts_of R i x w p)
+    parts_fit : (i : Control) → Passed C R i x p E → AllFit (given (parts_of R i x w p))
     parts_fit Unknown o = tt
     parts_fit Plain o = tt
     parts_fit Emit o = tt
@@ -83,18 +84,18 @@ module _ (C : Code) (R : Rules) (x : Opens) (w p E : ℕ) where
         by (At n q) e = tt
         by Nothing e = parts_fit (C.control p) (fault_none C R x p E e)
 
-    pub fits_at : {k : Look} → k ≡ look_of C R x w p E → AllFit k
+    pub fits_at : {k : Answer Look} → k ≡ look_of C R x w p E → AllFit k
     fits_at e = rw e look_fits
 
 -- .. and weighing what they should, where every LOOP is counted as 256 turns
 module _ (C : Code) (a : Allowed) (x : Opens) (w p E : ℕ) (g : Weighs a (part_of x w p E)) where
-  abbrev pub AllWeigh : Look → Type 0
-  AllWeigh (Refuse n) = Unit {0}
-  AllWeigh Next = Unit {0}
-  AllWeigh (One r next) = Weighs a r
-  AllWeigh (Two r next) = Weighs a r
+  abbrev pub AllWeigh : Answer Look → Type 0
+  AllWeigh (refused n q) = Unit {0}
+  AllWeigh (given Next) = Unit {0}
+  AllWeigh (given (One r next)) = Weighs a r
+  AllWeigh (given (Two r next)) = Weighs a r
 
-  parts_weigh : (i : Control) → Passed C (rules_of a) i x p E → AllWeigh (parts_of (rules_of a) i x w p)
+  parts_weigh : (i : Control) → Passed C (rules_of a) i x p E → AllWeigh (given (parts_of (rules_of a) i x w p))
   parts_weigh Unknown o = tt
   parts_weigh Plain o = tt
   parts_weigh Emit o = tt
@@ -115,5 +116,5 @@ module _ (C : Code) (a : Allowed) (x : Opens) (w p E : ℕ) (g : Weighs a (part_
       by (At n q) e = tt
       by Nothing e = parts_weigh (C.control p) (fault_none C (rules_of a) x p E e)
 
-  pub weighs_at : {k : Look} → k ≡ look_of C (rules_of a) x w p E → AllWeigh k
+  pub weighs_at : {k : Answer Look} → k ≡ look_of C (rules_of a) x w p E → AllWeigh k
   weighs_at e = rw e look_weighs

@@ -3,19 +3,19 @@ use mathlib.Core.Path.{◌≡◌, refl, sym, ap, ◌∙◌}
 use mathlib.Core.Bool.{Bool, true, false, ◌&&◌, ◌||◌}
 use mathlib.Core.List.{List, [], ◌∷◌}
 use Prim.Native.Nat.{ℕ, zero, suc, ◌+◌, ◌-◌, ◌*◌, ◌≤◌, ◌<◌}
-use native.Mathlib.Numerals.{add-one}
 use native.Mathlib.Omega.{arith}
 use lib.Dec.{eqb, ltb}
-use lib.ListN.{length, get_or, set, length-set, replicate, get_or-replicate, length-replicate}
+use lib.ListN.{length, take, get_or, set, length-set, replicate, get_or-replicate, length-replicate}
 use lib.Seq.{get_or-set_same, get_or-set_other}
 use mir.Val.{bool_byte}
 use borrow.Author.Tests.{ltb-true, ne_eqb, eqb-true, eqb-false}
-use Rattle.answer.specs.Answers.{given, refused}
+use Rattle.std.specs.Prelude.{sum_by}
+use Rattle.std.proofs.lemmas.List.{length-take-le, get_or-take}
+use Rattle.std.proofs.lemmas.List.Sums.{sum_by_more}
+use Rattle.answer.specs.Answers.{Answer, given, refused}
 use Rattle.answer.specs.Faults.{fault_if, or_else}
-use Rattle.answer.specs.declared.Fault.{Fault}
-use Rattle.answer.specs.declared.Fault.TheVariants.{Nothing, At}
-use Rattle.binary.specs.Addresses.{word_address}
-use Rattle.binary.specs.declared.WordAddress.{WordAddress}
+use Rattle.answer.specs.Faults.{Fault}
+use Rattle.answer.specs.Faults.{Nothing, At}
 use Rattle.instruction.specs.declared.flow_control.Control.{Control}
 use Rattle.instruction.specs.declared.flow_control.Control.TheVariants.{Unknown, Plain, Emit, End, Break, If, Loop, Call, Jump}
 use Rattle.flow.specs.Flow.{code_of, measured_by, flow_of}
@@ -24,16 +24,14 @@ use Rattle.flow.specs.Rules.{Code, Rules, none_open, in_if, in_loop, in_call, pi
 use Rattle.flow.specs.Own.{next_of, own_words, has}
 use Rattle.flow.specs.Visits.{Visit, Trace, nothing, and_then, unless_fault, Tracer, parts, visit, region, trace_to, size, trace, main_trace, bad22, bad23, bad24, bad25, bad26, fault_at, first_fault, flow_fault, is_end, total, visited, distinct}
 use Rattle.flow.specs.declared.look.Opens.{Opens}
-use Rattle.flow.specs.declared.scan.Scan.{Scan}
-use Rattle.flow.specs.declared.scan.Scan.TheVariants.{Go, Stop}
 use Rattle.flow.proofs.Depth.{Passed, fault_none, if_bounds, loop_bounds, call_bounds, next_in, fewer, nearer, spare_if, spare_loop, spare_call}
 use Rattle.flow.proofs.Weights.{Each, none, one, each_map, and_each}
 
 -- ---- the flow
 
-abbrev pub flow_by : Fault → ℕ → Scan
-flow_by (At number word) t = Stop number (word_address word)
-flow_by Nothing t = Go t
+abbrev pub flow_by : Fault → ℕ → Answer ℕ
+flow_by (At number word) t = refused number word
+flow_by Nothing t = given t
 
 module _ (C : Code) (R : Rules) where
   -- a fault is at its word
@@ -53,15 +51,15 @@ module _ (C : Code) (R : Rules) where
 
   pub replay_flow : (vs : List Visit) (t : ℕ) (m : List Bool) → (replay C R vs t m).flow ≡ flow_by (first_fault C R t vs) (t + total vs)
   unfolding replay
-  replay_flow [] t m = ap Go (omega arith)
+  replay_flow [] t m = ap given (omega arith)
   replay_flow (v ∷ vs) t m = by (set m v.word true) (replay_flow vs (t + v.weight) (set m v.word true)) (ltb R.most (t + v.weight)) (fault_at C R v.opens v.word v.end) refl
     where
       by : (m' : List Bool) → (replay C R vs (t + v.weight) m').flow ≡ flow_by (first_fault C R (t + v.weight) vs) (t + v.weight + total vs)
           → (over : Bool) (f : Fault) → fault_at C R v.opens v.word v.end ≡ f
-          → (pick over (scanned (Stop 27 (word_address v.word)) m) (stop_or f v.word m' (replay C R vs (t + v.weight) m'))).flow
+          → (pick over (scanned (refused 27 v.word) m) (stop_or f m' (replay C R vs (t + v.weight) m'))).flow
           ≡ flow_by (or_else (fault_if over 27 v.word) (or_else f (first_fault C R (t + v.weight) vs))) (t + (v.weight + total vs))
       by m' h true f e = refl
-      by m' h false (At n q) e = rw (fault_place v.opens v.word v.end e)
+      by m' h false (At n q) e = refl
       by m' h false Nothing e = h ∙ ap (flow_by (first_fault C R (t + v.weight) vs)) (omega arith)
 
   -- ---- the marks
@@ -83,7 +81,7 @@ module _ (C : Code) (R : Rules) where
 
       by : (m' : List Bool) {b : Bool} → (first_fault C R (t + v.weight) vs ≡ Nothing → get_or (replay C R vs (t + v.weight) m').marks i false ≡ b)
           → (over : Bool) (f : Fault) → or_else (fault_if over 27 v.word) (or_else f (first_fault C R (t + v.weight) vs)) ≡ Nothing
-          → get_or (pick over (scanned (Stop 27 (word_address v.word)) m) (stop_or f v.word m' (replay C R vs (t + v.weight) m'))).marks i false ≡ b
+          → get_or (pick over (scanned (refused 27 v.word) m) (stop_or f m' (replay C R vs (t + v.weight) m'))).marks i false ≡ b
       by m' h true f q = absurd (let z : ◌≡◌ {A = ℕ} 0 1 = cc in omega arith)
       by m' h false (At n p) q = absurd (let z : ◌≡◌ {A = ℕ} 0 1 = cc in omega arith)
       by m' h false Nothing q = h q
@@ -95,18 +93,22 @@ unfolding count_to
 count_cong zero f g h = refl
 count_cong (suc n) f g h = rw (count_cong n f g (λ i l. h i (omega arith)), h n (omega arith))
 
--- by the byte that a bool is
-pub bool_byte_le : (b : Bool) → bool_byte b ≤ 1
-bool_byte_le true = omega arith
-bool_byte_le false = omega arith
+-- by the bytes that bools are
+bool_byte_is : (b : Bool) → bool_byte b ≡ pick b 1 0
+bool_byte_is true = refl
+bool_byte_is false = refl
 
-pub count_next : (n : ℕ) (f : ℕ → Bool) → count_to n f + bool_byte (f n) ≡ count_to (n + 1) f
+pub count_sum : (m : List Bool) (n : ℕ) → n ≤ length m → sum_by bool_byte (take n m) ≡ count_to n (λ i. get_or m i false)
 unfolding count_to
-count_next n f = rw (add-one n) (by (f n))
-  where
-    by : (b : Bool) → count_to n f + bool_byte b ≡ count_to n f + pick b 1 0
-    by true = refl
-    by false = refl
+count_sum m zero h = refl
+count_sum m (suc n) h =
+    let e : n + 1 ≡ suc n = omega arith in
+    rw e at (sum_by_more bool_byte m n false (omega arith)) ∙ rw (count_sum m n (omega arith), bool_byte_is)
+
+-- of the first n marks
+pub count_first : (m : List Bool) (n : ℕ) → n ≤ length m → count_to (length (take n m)) (λ i. get_or (take n m) i false) ≡ count_to n (λ i. get_or m i false)
+count_first m n h =
+    rw (length-take-le n m h) (count_cong n (λ i. get_or (take n m) i false) (λ i. get_or m i false) (λ i l. get_or-take n m i false l))
 
 -- one more
 count_one : (n w : ℕ) (f : ℕ → Bool) → w < n → count_to n (λ i. eqb w i || f i) ≡ pick (f w) 0 1 + count_to n f
@@ -193,11 +195,11 @@ module _ (C : Code) (R : Rules) where
 
 -- ---- the check's answer, by what scanning main leaves
 
-stop_is : {n : ℕ} {q : WordAddress} (f g : Fault) (vs : List Visit) → Stop n q ≡ flow_by f (total vs) → refused n q.0 ≡ measured_by (or_else f g) vs
+stop_is : {n q : ℕ} (f g : Fault) (vs : List Visit) → refused n q ≡ flow_by f (total vs) → refused n q ≡ measured_by (or_else f g) vs
 stop_is (At k p) g vs h = cc
 stop_is Nothing g vs h = absurd (let z : ◌≡◌ {A = ℕ} 0 1 = cc in omega arith)
 
-go_is : {t k : ℕ} (f : Fault) → Go t ≡ flow_by f k → (f ≡ Nothing) × (t ≡ k)
+go_is : {t k : ℕ} (f : Fault) → given t ≡ flow_by f k → (f ≡ Nothing) × (t ≡ k)
 go_is (At n p) h = absurd (let z : ◌≡◌ {A = ℕ} 0 1 = cc in omega arith)
 go_is Nothing h = (refl, cc)
 
@@ -214,18 +216,18 @@ module _ (ws : List ℕ) (R : Rules) (main E : ℕ) where
   abbrev unmarked : List Bool
   unmarked = replicate 512 false
 
-  module _ {s : Scan} {m' : List Bool} (d : scanned s m' ≡ replay C R vs 0 unmarked) where
+  module _ {s : Answer ℕ} {m' : List Bool} (d : scanned s m' ≡ replay C R vs 0 unmarked) where
     flow_is : s ≡ flow_by (first_fault C R 0 vs) (total vs)
     flow_is = let e : s ≡ (replay C R vs 0 unmarked).flow = ap (λ r. r.flow) d in e ∙ replay_flow C R vs 0 unmarked ∙ ap (flow_by (first_fault C R 0 vs)) (omega arith)
 
-    pub flow_stop : {n : ℕ} {q : WordAddress} → s ≡ Stop n q → refused n q.0 ≡ flow_of R ws main E
+    pub flow_stop : {n q : ℕ} → s ≡ refused n q → refused n q ≡ flow_of R ws main E
     unfolding flow_of flow_fault
     flow_stop e = stop_is (first_fault C R 0 vs) _ vs (sym e ∙ flow_is)
 
-    no_fault : {t : ℕ} → s ≡ Go t → (first_fault C R 0 vs ≡ Nothing) × (t ≡ total vs)
+    no_fault : {t : ℕ} → s ≡ given t → (first_fault C R 0 vs ≡ Nothing) × (t ≡ total vs)
     no_fault e = go_is (first_fault C R 0 vs) (sym e ∙ flow_is)
 
-    pub flow_28 : {t : ℕ} → s ≡ Go t → ended ≡ false → refused 28 (E - 1) ≡ flow_of R ws main E
+    pub flow_28 : {t : ℕ} → s ≡ given t → ended ≡ false → refused 28 (E - 1) ≡ flow_of R ws main E
     unfolding flow_of flow_fault
     flow_28 e h = rw ((no_fault e).0, h)
 
@@ -246,7 +248,7 @@ module _ (ws : List ℕ) (R : Rules) (main E : ℕ) where
               ∙ replay_marks C R vs 0 unmarked i (rw (length-replicate 512 false) l) e
               ∙ rw (get_or-replicate 512 i false false l) (or_false (visited vs i))
 
-      pub flow_passed : {t count : ℕ} → s ≡ Go t → ended ≡ true → count ≡ count_to (length ws) (λ i. get_or m' i false)
+      pub flow_passed : {t count : ℕ} → s ≡ given t → ended ≡ true → count ≡ count_to (length ws) (λ i. get_or m' i false)
           → given (record { total = t; words = count }) ≡ flow_of R ws main E
       unfolding flow_of flow_fault
       flow_passed e k n = rw ((no_fault e).0, k, (no_fault e).1, n, counted (no_fault e).0)

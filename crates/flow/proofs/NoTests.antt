@@ -1,11 +1,16 @@
 -- Words without tests, one after another: they are passed, counted and marked, at once. Assumes nothing.
-use mathlib.Core.Path.{◌≡◌, refl}
+use mathlib.Core.Path.{◌≡◌, refl, sym, ap, ◌∙◌}
 use mathlib.Core.Bool.{Bool, true, false}
-use mathlib.Core.List.{List}
+use mathlib.Core.List.{List, ◌∷◌, ◌++◌}
 use Prim.Native.Nat.{ℕ, zero, suc, ◌+◌, ◌*◌, ◌-◌, ◌^◌, ◌≤◌, ◌<◌, max}
 use native.Mathlib.Nat.{le-max_left, max-le}
 use native.Mathlib.Omega.{arith}
-use lib.ListN.{get_or, set}
+use lib.ListN.{length, take, drop, replicate, get_or, set, length-set}
+use lib.Seq.{take-suc-set}
+use borrow.Rule.Slice.PartMut.{put_mid}
+use Rattle.std.proofs.Common.{append_assoc}
+use Rattle.std.proofs.lemmas.List.{drop-set-lt, drop-drop, take-append-drop}
+use Rattle.std.specs.Prelude.{Ok}
 use Rattle.binary.specs.declared.WordAddress.{WordAddress}
 use Rattle.instruction.specs.declared.flow_control.Control.{Control}
 use Rattle.instruction.specs.declared.flow_control.Control.TheVariants.{Unknown, Plain, Emit, End, Break, If, Loop, Call, Jump}
@@ -16,7 +21,6 @@ use Rattle.flow.specs.declared.look.Opens.{Opens}
 use Rattle.flow.specs.declared.look.Part.{Part}
 use Rattle.flow.specs.declared.scan.Deep.{Deep}
 use Rattle.flow.specs.declared.scan.Outcome.{Outcome}
-use Rattle.flow.specs.declared.scan.Scan.TheVariants.{Go}
 use Rattle.flow.proofs.Standing.{Standing, standing_first, standing_known, standing_end, ready_second, both_passed}
 use Rattle.flow.proofs.Tests.{false_not_true, both}
 
@@ -52,17 +56,15 @@ module _ (C : Code) (p to : ℕ) where
       let n : to - p ≡ 0 = omega arith in
       rw n
 
-pub mark_next : (m : List Bool) (p to : ℕ) → p < to → mark_all m p (to - p) ≡ mark_all (set m p true) (p + 1) (to - (p + 1))
+-- marked at once: the n words from p on
+pub mark_fill : (m : List Bool) (p n : ℕ) → p + n ≤ length m → put_mid p n m (replicate n true) ≡ mark_all m p n
 unfolding mark_all
-mark_next m p to l =
-    let n : to - p ≡ suc (to - (p + 1)) = omega arith in
-    rw (n, mark_all)
-
-pub mark_none : (m : List Bool) (p to : ℕ) → to ≤ p → mark_all m p (to - p) ≡ m
-unfolding mark_all
-mark_none m p to l =
-    let n : to - p ≡ 0 = omega arith in
-    rw n
+mark_fill m p zero h = take-append-drop p m
+mark_fill m p (suc n) h =
+    let x : p + 1 ≡ suc p = omega arith in
+    let rest : drop (suc n) (drop p m) ≡ drop n (drop (suc p) m) = drop-drop (suc n) p m ∙ ap (λ k. drop k m) (omega arith) ∙ sym (drop-drop n (suc p) m) in
+    let more = mark_fill (set m p true) (p + 1) n (omega (arith, length-set m p true)) in
+    rw (← more, x, take-suc-set m p true (omega arith), drop-set-lt (suc p) m p true (omega arith), append_assoc) (ap (λ ys. take p m ++ (true ∷ (replicate n true ++ ys))) rest)
 
 -- n words, and then k more
 untested_split : (C : Code) (p n k : ℕ) → no_tests C p (n + k) ≡ true → (no_tests C p n ≡ true) × (no_tests C (p + n) k ≡ true)
@@ -106,7 +108,7 @@ module _ (C : Code) (a : Allowed) (part : Part) (total : ℕ) (m₀ : List Bool)
 
 -- a part without tests
 untested_scans : (C : Code) (a : Allowed) (r : Part) (total n : ℕ) {m : List Bool} {costs depths : List ℕ} {o : Outcome} → Ready C a r m costs depths → a.most < 2 ^ 32 → r.from.0 + n ≡ r.to.0 → total + r.weight * n ≤ a.most
-    → no_tests C r.from.0 n ≡ true → o.scan ≡ Go (total + r.weight * n) → o.deep ≡ deep_of r.opens → Scans C (rules_of a) r total m o (mark_all m r.from.0 n) costs depths
+    → no_tests C r.from.0 n ≡ true → o.total ≡ total + r.weight * n → o.deep ≡ deep_of r.opens → Scans C (rules_of a) r total m (Ok o) (mark_all m r.from.0 n) costs depths
 untested_scans C a r total n {m} y b e u plain z deep =
     let s = untested_standing C a r total m y.within y.few b n (standing_first C a r total m y (omega arith) refl) (omega arith) u plain in
     standing_end C a r total m y.within y.few s (omega arith) z deep
@@ -127,7 +129,7 @@ opened_none x =
 -- the two parts of an IF
 pub untested_both : (C : Code) (a : Allowed) (r : Part) (next : WordAddress) (total p size : ℕ) (m : List Bool) {m' : List Bool} {costs depths : List ℕ} {o : Outcome} → Ready C a r m costs depths → AsksBoth (C.control p) p r next
     → next.0 ≤ C.words → a.most < 2 ^ 32 → size ≡ next.0 - r.from.0 → total + r.weight * size ≤ a.most → no_tests C r.from.0 size ≡ true → o ≡ passed_over r total size none
-    → m' ≡ mark_all m r.from.0 size → ScansBoth C (rules_of a) r next total m o m' costs depths
+    → m' ≡ mark_all m r.from.0 size → ScansBoth C (rules_of a) r next total m (Ok o) m' costs depths
 untested_both C a r next total p size m y h within b size_is fits plain e marked =
     let n = r.to.0 - r.from.0 in
     let k = next.0 - r.to.0 in
@@ -137,8 +139,8 @@ untested_both C a r next total p size m y h within b size_is fits plain e marked
     let at : r.from.0 + n ≡ r.to.0 = omega arith in
     let sum : total + r.weight * size ≡ total + r.weight * n + r.weight * k = rw both-sizes (omega arith) in
     let (first, second) = untested_split C r.from.0 n k (rw both-sizes at plain) in
-    let f = untested_scans C a r total n {o = record { scan = Go (total + r.weight * n); deep = deep_of r.opens }} y b at (omega (arith, sum)) first refl refl in
-    let g = untested_scans C a (after_part r next) (total + r.weight * n) k {o = record { scan = Go (total + r.weight * n + r.weight * k); deep = deep_of r.opens }} (ready_second next y f within) b (omega arith) (omega (arith, sum)) (rw at at second) refl refl in
+    let f = untested_scans C a r total n {o = record { total = total + r.weight * n; deep = deep_of r.opens }} y b at (omega (arith, sum)) first refl refl in
+    let g = untested_scans C a (after_part r next) (total + r.weight * n) k {o = record { total = total + r.weight * n + r.weight * k; deep = deep_of r.opens }} (ready_second next y f within) b (omega arith) (omega (arith, sum)) (rw at at second) refl refl in
     let deep : deep_of r.opens ≡ deepest (deep_of r.opens) (deep_of r.opens) = rw (max_self r.opens.calls, max_self r.opens.ifs, max_self r.opens.loops) in
     let marks : mark_all (mark_all m r.from.0 n) r.to.0 k ≡ mark_all m r.from.0 size = rw both-sizes (rw at at (mark_split m r.from.0 n k)) in
     rw (e, marked, ← marks) (both_passed C a r next total p m y h f refl g refl deep (rw sum) (opened_none r.opens))

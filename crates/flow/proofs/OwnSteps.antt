@@ -2,6 +2,7 @@
 use mathlib.Core.Path.{◌≡◌, refl}
 use mathlib.Core.Bool.{Bool, true, false}
 use mathlib.Core.List.{[], ◌∷◌}
+use Rattle.std.specs.Prelude.{Some, None}
 use Prim.Native.Nat.{ℕ, zero, suc, ◌+◌, ◌-◌, ◌<◌, ◌≤◌}
 use native.Mathlib.Omega.{arith}
 use lib.Dec.{ltb, eqb}
@@ -12,15 +13,14 @@ use Rattle.instruction.specs.declared.flow_control.Control.TheVariants.{Unknown,
 use Rattle.flow.specs.Inside.{after_of}
 use Rattle.flow.specs.Own.{next_of, spans, own_from, own_words, has}
 use Rattle.flow.specs.Rules.{Code, pick}
-use Rattle.flow.specs.declared.own.After.TheVariants.{At, Stop}
 use Rattle.flow.proofs.Depth.{spans_in, own_eq}
 use Rattle.flow.proofs.Tests.{true_not_false}
 
-pub at_of : (b : Bool) {n m : ℕ} → pick b (At n) Stop ≡ At m → (b ≡ true) × (m ≡ n)
+pub at_of : (b : Bool) {n m : ℕ} → pick b (Some n) None ≡ Some m → (b ≡ true) × (m ≡ n)
 at_of true e = (refl, cc)
 at_of false e = absurd (let z : ◌≡◌ {A = ℕ} 0 1 = cc in omega arith)
 
-pub stop_of : (b : Bool) (n : ℕ) → pick b (At n) Stop ≡ Stop → b ≡ false
+pub stop_of : (b : Bool) (n : ℕ) → pick b (Some n) None ≡ None → b ≡ false
 stop_of true n e = absurd (let z : ◌≡◌ {A = ℕ} 0 1 = cc in omega arith)
 stop_of false n e = refl
 
@@ -49,12 +49,12 @@ module _ (C : Code) (p E d : ℕ) where
   pub own_here : p < E → p ≡ d → true ≡ has (own_words C p E) d
   own_here l e = rw (own_eq C p E, lt-ltb p E l, eq-eqb p d e)
 
-  pub own_next : p < E → (p ≡ d → ⊥) → {n : ℕ} → after_of (C.control p) p E ≡ At n → has (own_words C p E) d ≡ has (own_words C n E) d
+  pub own_next : p < E → (p ≡ d → ⊥) → {n : ℕ} → after_of (C.control p) p E ≡ Some n → has (own_words C p E) d ≡ has (own_words C n E) d
   own_next l n e =
       let (s, z) = at_of (spans (C.control p) p E) {n = next_of (C.control p) p} e in
       rw (own_eq C p E, lt-ltb p E l, ne_eqb p d n, s, z)
 
-  pub own_last : p < E → (p ≡ d → ⊥) → after_of (C.control p) p E ≡ Stop → false ≡ has (own_words C p E) d
+  pub own_last : p < E → (p ≡ d → ⊥) → after_of (C.control p) p E ≡ None → false ≡ has (own_words C p E) d
   own_last l n e = rw (own_eq C p E, lt-ltb p E l, ne_eqb p d n, stop_of (spans (C.control p) p E) (next_of (C.control p) p) e)
 
   -- where the search ends
@@ -66,7 +66,7 @@ module _ (C : Code) (p E d : ℕ) where
       by false e = own_none (λ g. absurd (eqb-false p d e (omega arith)))
 
 -- after a word that is no block comes the next word
-pub after_no_block : (i : Control) (p E : ℕ) → is_block i ≡ false → after_of i p E ≡ At (p + 1)
+pub after_no_block : (i : Control) (p E : ℕ) → is_block i ≡ false → after_of i p E ≡ Some (p + 1)
 after_no_block Unknown p E e = refl
 after_no_block Plain p E e = refl
 after_no_block Emit p E e = refl
@@ -78,5 +78,5 @@ after_no_block (Call c dst num) p E e = refl
 after_no_block (Jump c dst num) p E e = refl
 
 -- the next own word is further on
-pub after_further : (i : Control) (p E : ℕ) {n : ℕ} → p < E → after_of i p E ≡ At n → p < n
+pub after_further : (i : Control) (p E : ℕ) {n : ℕ} → p < E → after_of i p E ≡ Some n → p < n
 after_further i p E l e = let (s, z) = at_of (spans i p E) {n = next_of i p} e in omega (arith, spans_in i p E l s)

@@ -8,8 +8,9 @@ use native.Mathlib.Omega.{arith}
 use lib.Dec.{eqb, ltb}
 use lib.ListN.{length, get_or}
 use borrow.Author.Tests.{ltb-true}
-use Rattle.answer.specs.declared.Fault.{Fault}
-use Rattle.answer.specs.declared.Fault.TheVariants.{Nothing, At}
+use Rattle.answer.specs.Answers.{given}
+use Rattle.answer.specs.Faults.{Fault}
+use Rattle.answer.specs.Faults.{Nothing, At}
 use Rattle.instruction.specs.declared.flow_control.Control.{Control}
 use Rattle.instruction.specs.declared.flow_control.Control.TheVariants.{Unknown, Plain, Emit, End, Break, If, Loop, Call, Jump}
 use Rattle.flow.specs.Inside.{part_of, Scanned, scanned, scan_of, beyond, Over, Under, Room, deep_of}
@@ -19,7 +20,6 @@ use Rattle.flow.specs.Visits.{Visit, Trace, nothing, follow, and_then, unless_fa
 use Rattle.flow.specs.declared.look.Opens.{Opens}
 use Rattle.flow.specs.declared.look.Part.{Part}
 use Rattle.flow.specs.declared.scan.Deep.{Deep}
-use Rattle.flow.specs.declared.scan.Scan.TheVariants.{Go}
 use Rattle.flow.proofs.Depth.{Passed, fault_none, if_bounds, loop_bounds, call_bounds, next_in, fewer, nearer, spare_if, spare_loop, spare_call, trace_eq}
 use Rattle.flow.proofs.EachVisit.{trace_of, went_on, unstopped}
 use Rattle.flow.proofs.Marks.{replay_flow, replay_marks}
@@ -106,7 +106,7 @@ module _ (C : Code) (R : Rules) where
 
   -- a part is passed: to this total, and with these words added to the marks
   pub record PassedWith (r : Part) (t t₁ : ℕ) (m : List Bool) (added : ℕ → Bool) : Type 0 where
-    pub flow : (scan_of C R r t m).flow ≡ Go t₁
+    pub flow : (scan_of C R r t m).flow ≡ given t₁
     pub marks : (i : ℕ) → i < length m → get_or (scan_of C R r t m).marks i false ≡ (added i || get_or m i false)
 
   -- passed once: its cost; the depths, no more than the most that is open around it and at its visits; and the words it adds, which are the same wherever it fits
@@ -122,7 +122,7 @@ module _ (C : Code) (R : Rules) where
     pub again : (x : Opens) (w u : ℕ) (m' : List Bool) → x.looped ≡ r.opens.looped → Room R x (beyond depths r.opens) → u + w * cost ≤ R.most
         → PassedWith (part_of x w r.from.0 r.to.0) u (u + w * cost) m' added
 
-  pub passed_anywhere : (r : Part) (t : ℕ) (m : List Bool) {t₁ : ℕ} {m₁ : List Bool} → r.to.0 ≤ C.words → C.words ≤ length m → Under R (deep_of r.opens) → scanned (Go t₁) m₁ ≡ scan_of C R r t m → Anywhere r t t₁ m m₁
+  pub passed_anywhere : (r : Part) (t : ℕ) (m : List Bool) {t₁ : ℕ} {m₁ : List Bool} → r.to.0 ≤ C.words → C.words ≤ length m → Under R (deep_of r.opens) → scanned (given t₁) m₁ ≡ scan_of C R r t m → Anywhere r t t₁ m m₁
   passed_anywhere r t m {t₁} {m₁} h long under e =
       let found = passed_once C R r t m h long under e in
       let l = found.left in

@@ -10,20 +10,18 @@ use native.Mathlib.Omega.{arith}
 use lib.Dec.{ltb}
 use lib.ListN.{length, set, length-set}
 use borrow.Author.Tests.{ltb-true, ltb-false}
-use Rattle.answer.specs.declared.Fault.{Fault}
-use Rattle.answer.specs.declared.Fault.TheVariants.{Nothing, At}
-use Rattle.binary.specs.Addresses.{word_address}
+use Rattle.answer.specs.Answers.{Answer, given, refused}
+use Rattle.answer.specs.Faults.{Fault}
+use Rattle.answer.specs.Faults.{Nothing, At}
 use Rattle.binary.specs.declared.WordAddress.{WordAddress}
 use Rattle.flow.specs.Inside.{part_of, look_of, Scanned, scanned, stop_or, replay, scan_of, after_part, Under, Covers, Left, deepest, deep_of}
 use Rattle.flow.specs.Rules.{Code, Rules, pick}
 use Rattle.flow.specs.Visits.{Visit, fault_at, size, trace}
 use Rattle.flow.specs.declared.look.Look.{Look}
-use Rattle.flow.specs.declared.look.Look.TheVariants.{Refuse, Next, One, Two}
+use Rattle.flow.specs.declared.look.Look.TheVariants.{Next, One, Two}
 use Rattle.flow.specs.declared.look.Opens.{Opens}
 use Rattle.flow.specs.declared.look.Part.{Part}
 use Rattle.flow.specs.declared.scan.Deep.{Deep}
-use Rattle.flow.specs.declared.scan.Scan.{Scan}
-use Rattle.flow.specs.declared.scan.Scan.TheVariants.{Go, Stop}
 use Rattle.flow.proofs.EachVisit.{trace_of, unstopped, each_here, each_at}
 use Rattle.flow.proofs.Looks.{later, fits_at}
 use Rattle.flow.proofs.Passing.{Below, covers_self, covers_trans, covers_set, Prefix, prefix_none, prefix_next, prefix_one, prefix_two, prefix_end}
@@ -48,7 +46,7 @@ module _ (C : Code) (R : Rules) where
       by (ltb R.most (t + v.weight)) (fault_at C R v.opens v.word v.end) (replay C R vs (t + v.weight) (set m v.word true)) (replay_grows vs (t + v.weight) (set m v.word true))
     where
       by : (over : Bool) (f : Fault) (rest : Scanned) → Grown (set m v.word true) rest.marks
-          → Grown m (pick over (scanned (Stop 27 (word_address v.word)) m) (stop_or f v.word (set m v.word true) rest)).marks
+          → Grown m (pick over (scanned (refused 27 v.word) m) (stop_or f (set m v.word true) rest)).marks
       by true f rest g = record { covers = covers_self m; long = refl }
       by false (At k q) rest g = record { covers = covers_set m v.word; long = length-set m v.word true }
       by false Nothing rest g = record { covers = covers_trans (covers_set m v.word) g.covers; long = g.long ∙ length-set m v.word true }
@@ -69,10 +67,10 @@ module _ (C : Code) (R : Rules) where
   abbrev Known : ℕ → Type 0
   Known n =
       (part : Part) (t : ℕ) (m : List Bool) (t₁ : ℕ) (m₁ : List Bool) → size C R part.opens part.from.0 part.to.0 < n → part.to.0 ≤ C.words → C.words ≤ length m → Under R (deep_of part.opens)
-      → scanned (Go t₁) m₁ ≡ scan_of C R part t m → Found part t t₁ m₁
+      → scanned (given t₁) m₁ ≡ scan_of C R part t m → Found part t t₁ m₁
 
   -- a scan that goes on is not one that stops
-  not_stopped : {A : Type 0} {t₁ : ℕ} {m₁ m₂ : List Bool} {k : ℕ} {q : WordAddress} {s : Scan} → scanned (Go t₁) m₁ ≡ scanned s m₂ → s ≡ Stop k q → A
+  not_stopped : {A : Type 0} {t₁ : ℕ} {m₁ m₂ : List Bool} {k q : ℕ} {s : Answer ℕ} → scanned (given t₁) m₁ ≡ scanned s m₂ → s ≡ refused k q → A
   not_stopped e z = let f = ap (λ (y : Scanned). y.flow) e in apart (cc)
 
   -- own word by own word
@@ -97,10 +95,10 @@ module _ (C : Code) (R : Rules) where
 
     abbrev Onward : ℕ → Type 0
     Onward p =
-        (q t : ℕ) (d : Deep) (m : List Bool) → p < E → p < q → C.words ≤ length m → Prefix C R part before q t d m → Bounds q d → scanned (Go t₁) m₁ ≡ scan_of C R (part_of X W q E) t m → Found part before t₁ m₁
+        (q t : ℕ) (d : Deep) (m : List Bool) → p < E → p < q → C.words ≤ length m → Prefix C R part before q t d m → Bounds q d → scanned (given t₁) m₁ ≡ scan_of C R (part_of X W q E) t m → Found part before t₁ m₁
 
     module _ {p t : ℕ} {d : Deep} {m : List Bool} (from : part.from.0 ≤ p) (long : C.words ≤ length m) (f : Prefix C R part before p t d m)
-        (bounds : Bounds p d) (e : scanned (Go t₁) m₁ ≡ scan_of C R (part_of X W p E) t m) (onward : Onward p) where
+        (bounds : Bounds p d) (e : scanned (given t₁) m₁ ≡ scan_of C R (part_of X W p E) t m) (onward : Onward p) where
       at_end : E ≤ p → Found part before t₁ m₁
       at_end l =
           let same = e ∙ sym (scan_end C R part p t m h l) in
@@ -119,16 +117,16 @@ module _ (C : Code) (R : Rules) where
         long' : C.words ≤ length m'
         long' = omega (arith, length-set m p true)
 
-        inner : (r : Part) {t₂ : ℕ} (t : ℕ) (m : List Bool) → size C R r.opens r.from.0 r.to.0 < size C R X p E → r.to.0 ≤ C.words → C.words ≤ length m → Under R (deep_of r.opens) → (scan_of C R r t m).flow ≡ Go t₂
+        inner : (r : Part) {t₂ : ℕ} (t : ℕ) (m : List Bool) → size C R r.opens r.from.0 r.to.0 < size C R X p E → r.to.0 ≤ C.words → C.words ≤ length m → Under R (deep_of r.opens) → (scan_of C R r t m).flow ≡ given t₂
             → Found r t t₂ (scan_of C R r t m).marks
         inner r {t₂} t m less within long y z =
-            known r t m t₂ (scan_of C R r t m).marks (omega (arith, later C R X part.from.0 p E from)) within long y (ap (λ (s : Scan). scanned s (scan_of C R r t m).marks) (sym z))
+            known r t m t₂ (scan_of C R r t m).marks (omega (arith, later C R X part.from.0 p E from)) within long y (ap (λ (s : Answer ℕ). scanned s (scan_of C R r t m).marks) (sym z))
 
         -- what the word and its parts leave of the bounds
-        next_bounds : Next ≡ look_of C R X W p E → Bounds (p + 1) d
+        next_bounds : given Next ≡ look_of C R X W p E → Bounds (p + 1) d
         next_bounds g top b a = let s = bounds top b a in record { deep = s.deep; rest = each_at C R (Within top) X W p E l h s.rest g }
 
-        one_bounds : {r : Part} {next : WordAddress} → One r next ≡ look_of C R X W p E → r.to.0 ≤ C.words → (trace_of C R r).stopped ≡ false → {t₂ t₃ : ℕ} {m₂ : List Bool} (found : Found r t₂ t₃ m₂)
+        one_bounds : {r : Part} {next : WordAddress} → given (One r next) ≡ look_of C R X W p E → r.to.0 ≤ C.words → (trace_of C R r).stopped ≡ false → {t₂ t₃ : ℕ} {m₂ : List Bool} (found : Found r t₂ t₃ m₂)
             → Bounds next.0 (deepest d found.depths)
         one_bounds {r} g within goes found top b a =
             let s = bounds top b a in
@@ -136,7 +134,7 @@ module _ (C : Code) (R : Rules) where
             let here = each_here C R (Within top) r.opens r.weight r.from.0 r.to.0 o.some within o.inside in
             record { deep = below_both d found.depths top s.deep (found.least top here o.inside); rest = o.after goes }
 
-        two_bounds : {r : Part} {next : WordAddress} → Two r next ≡ look_of C R X W p E → r.to.0 ≤ C.words → (trace_of C R r).stopped ≡ false → (trace_of C R (after_part r next)).stopped ≡ false
+        two_bounds : {r : Part} {next : WordAddress} → given (Two r next) ≡ look_of C R X W p E → r.to.0 ≤ C.words → (trace_of C R r).stopped ≡ false → (trace_of C R (after_part r next)).stopped ≡ false
             → {t₂ t₃ t₄ t₅ : ℕ} {m₂ m₃ : List Bool} (first : Found r t₂ t₃ m₂) (second : Found (after_part r next) t₄ t₅ m₃) → Bounds next.0 (deepest d (deepest first.depths second.depths))
         two_bounds {r} g within goes goes' first second top b a =
             let s = bounds top b a in
@@ -145,23 +143,23 @@ module _ (C : Code) (R : Rules) where
             let parts = below_both first.depths second.depths top (first.least top here o.inside) (second.least top here (o.second goes)) in
             record { deep = below_both d (deepest first.depths second.depths) top s.deep parts; rest = o.after goes goes' }
 
-        at_one : {r : Part} {next : WordAddress} → One r next ≡ look_of C R X W p E → Found part before t₁ m₁
+        at_one : {r : Part} {next : WordAddress} → given (One r next) ≡ look_of C R X W p E → Found part before t₁ m₁
         at_one {r} {next} g = by (scan_of C R r (t + W) m').flow refl
           where
-            by : (s : Scan) → (scan_of C R r (t + W) m').flow ≡ s → Found part before t₁ m₁
-            by (Stop k q) z = not_stopped (e ∙ sym (scan_one_stop C R part p t m h l u g refl z)) z
-            by (Go t₂) z =
+            by : (s : Answer ℕ) → (scan_of C R r (t + W) m').flow ≡ s → Found part before t₁ m₁
+            by (refused k q) z = not_stopped (e ∙ sym (scan_one_stop C R part p t m h l u g refl z)) z
+            by (given t₂) z =
                 let fit = fits_at C R X W p E l h under g in
                 let found = inner r (t + W) m' fit.0.smaller fit.0.within long' fit.0.under z in
                 let grown = part_grows r (t + W) m' in
                 onward next.0 t₂ (deepest d found.depths) _ l (omega (arith, fit.1)) (omega (arith, long', grown.long)) (prefix_one C R part before h f l here g found.left grown.covers) (one_bounds g fit.0.within (unstopped C R r (t + W) m' fit.0.within z) found) (e ∙ sym (scan_one C R part p t m h l u g refl z))
 
-        at_two : {r : Part} {next : WordAddress} → Two r next ≡ look_of C R X W p E → Found part before t₁ m₁
+        at_two : {r : Part} {next : WordAddress} → given (Two r next) ≡ look_of C R X W p E → Found part before t₁ m₁
         at_two {r} {next} g = by (scan_of C R r (t + W) m').flow refl
           where
-            second : (t₂ : ℕ) → (scan_of C R r (t + W) m').flow ≡ Go t₂ → (s : Scan) → (scan_of C R (after_part r next) t₂ (scan_of C R r (t + W) m').marks).flow ≡ s → Found part before t₁ m₁
-            second t₂ z (Stop k q) z' = not_stopped (e ∙ sym (scan_two_stop C R part p t m h l u g (both_go C R r next (t + W) m' refl z refl) z')) z'
-            second t₂ z (Go t₃) z' =
+            second : (t₂ : ℕ) → (scan_of C R r (t + W) m').flow ≡ given t₂ → (s : Answer ℕ) → (scan_of C R (after_part r next) t₂ (scan_of C R r (t + W) m').marks).flow ≡ s → Found part before t₁ m₁
+            second t₂ z (refused k q) z' = not_stopped (e ∙ sym (scan_two_stop C R part p t m h l u g (both_go C R r next (t + W) m' refl z refl) z')) z'
+            second t₂ z (given t₃) z' =
                 let fit = fits_at C R X W p E l h under g in
                 let grown = part_grows r (t + W) m' in
                 let grown' = part_grows (after_part r next) t₂ (scan_of C R r (t + W) m').marks in
@@ -172,15 +170,15 @@ module _ (C : Code) (R : Rules) where
                 (two_bounds g fit.0.within (unstopped C R r (t + W) m' fit.0.within z) (unstopped C R (after_part r next) t₂ (scan_of C R r (t + W) m').marks fit.1.within z') one two)
                 (e ∙ sym (scan_two C R part p t m h l u g (both_go C R r next (t + W) m' refl z refl) z'))
 
-            by : (s : Scan) → (scan_of C R r (t + W) m').flow ≡ s → Found part before t₁ m₁
-            by (Stop k q) z = not_stopped (e ∙ sym (scan_two_stop C R part p t m h l u g (both_stop C R r next (t + W) m' refl z) z)) z
-            by (Go t₂) z = second t₂ z (scan_of C R (after_part r next) t₂ (scan_of C R r (t + W) m').marks).flow refl
+            by : (s : Answer ℕ) → (scan_of C R r (t + W) m').flow ≡ s → Found part before t₁ m₁
+            by (refused k q) z = not_stopped (e ∙ sym (scan_two_stop C R part p t m h l u g (both_stop C R r next (t + W) m' refl z) z)) z
+            by (given t₂) z = second t₂ z (scan_of C R (after_part r next) t₂ (scan_of C R r (t + W) m').marks).flow refl
 
-        at_look : (k : Look) → k ≡ look_of C R X W p E → Found part before t₁ m₁
-        at_look (Refuse k) g = not_stopped (e ∙ sym (scan_refuse C R part p t m h l u g)) refl
-        at_look Next g = onward (p + 1) (t + W) d m' l (omega arith) long' (prefix_next C R part before h f l here g) (next_bounds g) (e ∙ sym (scan_next C R part p t m h l u g))
-        at_look (One r next) g = at_one g
-        at_look (Two r next) g = at_two g
+        at_look : (k : Answer Look) → k ≡ look_of C R X W p E → Found part before t₁ m₁
+        at_look (refused k q) g = not_stopped (e ∙ sym (scan_refuse C R part p t m h l u g)) refl
+        at_look (given Next) g = onward (p + 1) (t + W) d m' l (omega arith) long' (prefix_next C R part before h f l here g) (next_bounds g) (e ∙ sym (scan_next C R part p t m h l u g))
+        at_look (given (One r next)) g = at_one g
+        at_look (given (Two r next)) g = at_two g
 
       step : Found part before t₁ m₁
       step = by (ltb p E) refl
@@ -193,7 +191,7 @@ module _ (C : Code) (R : Rules) where
           by true z = most (ltb-true p E z) (ltb R.most (t + W)) refl
           by false z = at_end (ltb-false p E z)
 
-    from_here_lem : (k p t : ℕ) (d : Deep) (m : List Bool) → E - p ≤ k → part.from.0 ≤ p → C.words ≤ length m → Prefix C R part before p t d m → Bounds p d → scanned (Go t₁) m₁ ≡ scan_of C R (part_of X W p E) t m → Found part before t₁ m₁
+    from_here_lem : (k p t : ℕ) (d : Deep) (m : List Bool) → E - p ≤ k → part.from.0 ≤ p → C.words ≤ length m → Prefix C R part before p t d m → Bounds p d → scanned (given t₁) m₁ ≡ scan_of C R (part_of X W p E) t m → Found part before t₁ m₁
     from_here_lem zero p t d m b from long f bounds e = step from long f bounds e (λ q t d m l. absurd (omega arith))
     from_here_lem (suc k) p t d m b from long f bounds e = step from long f bounds e (λ q t d m l o long f bounds e. from_here_lem k q t d m (omega arith) (omega arith) long f bounds e)
 
@@ -204,5 +202,5 @@ module _ (C : Code) (R : Rules) where
       (λ top b a. record { deep = b; rest = a }) e
 
   -- the law: what is passed once costs the same and is passed wherever it fits (`Left`, `Passes`)
-  pub passed_once : (part : Part) (t : ℕ) (m : List Bool) {t₁ : ℕ} {m₁ : List Bool} → part.to.0 ≤ C.words → C.words ≤ length m → Under R (deep_of part.opens) → scanned (Go t₁) m₁ ≡ scan_of C R part t m → Found part t t₁ m₁
+  pub passed_once : (part : Part) (t : ℕ) (m : List Bool) {t₁ : ℕ} {m₁ : List Bool} → part.to.0 ≤ C.words → C.words ≤ length m → Under R (deep_of part.opens) → scanned (given t₁) m₁ ≡ scan_of C R part t m → Found part t t₁ m₁
   passed_once part t m h long under e = known_to (suc (size C R part.opens part.from.0 part.to.0)) part t m _ _ (omega arith) h long under e

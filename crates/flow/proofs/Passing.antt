@@ -10,8 +10,9 @@ use lib.Dec.{eqb}
 use lib.ListN.{length, get_or, set}
 use lib.Seq.{get_or-set_same, get_or-set_other}
 use borrow.Author.Tests.{lt-leb, eqb-true, eqb-false}
-use Rattle.answer.specs.declared.Fault.{Fault}
-use Rattle.answer.specs.declared.Fault.TheVariants.{Nothing, At}
+use Rattle.answer.specs.Answers.{given}
+use Rattle.answer.specs.Faults.{Fault}
+use Rattle.answer.specs.Faults.{Nothing, At}
 use Rattle.binary.specs.Addresses.{word_address}
 use Rattle.binary.specs.declared.WordAddress.{WordAddress}
 use Rattle.instruction.specs.declared.flow_control.Control.{Control}
@@ -23,7 +24,6 @@ use Rattle.flow.specs.declared.look.Look.TheVariants.{Next, One, Two}
 use Rattle.flow.specs.declared.look.Opens.{Opens}
 use Rattle.flow.specs.declared.look.Part.{Part}
 use Rattle.flow.specs.declared.scan.Deep.{Deep}
-use Rattle.flow.specs.declared.scan.Scan.TheVariants.{Go}
 use Rattle.flow.proofs.Depth.{Passed, fault_none}
 use Rattle.flow.proofs.Tests.{apart, false_not_true}
 use Rattle.flow.proofs.Replay.{scan_end, scan_next, scan_one, scan_two, both_go}
@@ -58,11 +58,11 @@ marked m m' p h c = same m' p (c.marked p (get_or-set_same m p true false h))
 
 -- what a word without a fault asks for in other surroundings of the same region
 module _ (C : Code) (R : Rules) (x x' : Opens) (w w' p E : ℕ) (same : x'.looped ≡ x.looped) where
-  pub look_next : Next ≡ look_of C R x w p E → Next ≡ look_of C R x' w' p E
+  pub look_next : given Next ≡ look_of C R x w p E → given Next ≡ look_of C R x' w' p E
   unfolding look_of fault_at
   look_next e = by (fault_at C R x p E) refl e
     where
-      on : (i : Control) → C.control p ≡ i → Passed C R i x p E → Next ≡ parts_of R i x w p → Next ≡ unless (fault_at C R x' p E) (parts_of R (C.control p) x' w' p)
+      on : (i : Control) → C.control p ≡ i → Passed C R i x p E → given Next ≡ given (parts_of R i x w p) → given Next ≡ unless (fault_at C R x' p E) (parts_of R (C.control p) x' w' p)
       on Unknown z o g = rw z g
       on Plain z o g = rw z g
       on Emit z o g = rw (z, o.emits) g
@@ -73,7 +73,7 @@ module _ (C : Code) (R : Rules) (x x' : Opens) (w w' p E : ℕ) (same : x'.loope
       on (Call c dst num) z o g = apart (cc)
       on (Jump c dst num) z o g = rw (z, o.jumps) g
 
-      by : (f : Fault) → fault_at C R x p E ≡ f → Next ≡ unless f (parts_of R (C.control p) x w p) → Next ≡ unless (fault_at C R x' p E) (parts_of R (C.control p) x' w' p)
+      by : (f : Fault) → fault_at C R x p E ≡ f → given Next ≡ unless f (parts_of R (C.control p) x w p) → given Next ≡ unless (fault_at C R x' p E) (parts_of R (C.control p) x' w' p)
       by (At n q) f g = apart (cc)
       by Nothing f g = on (C.control p) refl (fault_none C R x p E f) g
 
@@ -113,19 +113,19 @@ turns_of R (Jump c dst num) = 1
 record OneAsked (C : Code) (R : Rules) (x x' : Opens) (w w' p E : ℕ) (r : Part) (next : WordAddress) : Type 0 where
   part : Part
   shift : Shift (turns_of R (C.control p)) x x' w w' r part
-  asks : One part next ≡ look_of C R x' w' p E
+  asks : given (One part next) ≡ look_of C R x' w' p E
 
 record TwoAsked (C : Code) (R : Rules) (x x' : Opens) (w w' p E : ℕ) (r : Part) (next : WordAddress) : Type 0 where
   first : Part
   shift : Shift 1 x x' w w' r first
-  asks : Two first next ≡ look_of C R x' w' p E
+  asks : given (Two first next) ≡ look_of C R x' w' p E
 
 module _ (C : Code) (R : Rules) (x x' : Opens) (w w' p E : ℕ) (same-loop : x'.looped ≡ x.looped) (d : Deep) (room : Room R x' (beyond d x)) where
-  look_one : {r : Part} {next : WordAddress} → Over d r.opens → One r next ≡ look_of C R x w p E → OneAsked C R x x' w w' p E r next
+  look_one : {r : Part} {next : WordAddress} → Over d r.opens → given (One r next) ≡ look_of C R x w p E → OneAsked C R x x' w w' p E r next
   unfolding look_of fault_at
   look_one {r} {next} over e = by (fault_at C R x p E) refl e
     where
-      on : (i : Control) → C.control p ≡ i → Passed C R i x p E → One r next ≡ parts_of R i x w p → OneAsked C R x x' w w' p E r next
+      on : (i : Control) → C.control p ≡ i → Passed C R i x p E → given (One r next) ≡ given (parts_of R i x w p) → OneAsked C R x x' w w' p E r next
       on Unknown z o g = apart (cc)
       on Plain z o g = apart (cc)
       on Emit z o g = apart (cc)
@@ -152,15 +152,15 @@ module _ (C : Code) (R : Rules) (x x' : Opens) (w w' p E : ℕ) (same-loop : x'.
           }
       on (Jump c dst num) z o g = apart (cc)
 
-      by : (f : Fault) → fault_at C R x p E ≡ f → One r next ≡ unless f (parts_of R (C.control p) x w p) → OneAsked C R x x' w w' p E r next
+      by : (f : Fault) → fault_at C R x p E ≡ f → given (One r next) ≡ unless f (parts_of R (C.control p) x w p) → OneAsked C R x x' w w' p E r next
       by (At n q) f g = apart (cc)
       by Nothing f g = on (C.control p) refl (fault_none C R x p E f) g
 
-  look_two : {r : Part} {next : WordAddress} → Over d r.opens → Two r next ≡ look_of C R x w p E → TwoAsked C R x x' w w' p E r next
+  look_two : {r : Part} {next : WordAddress} → Over d r.opens → given (Two r next) ≡ look_of C R x w p E → TwoAsked C R x x' w w' p E r next
   unfolding look_of fault_at
   look_two {r} {next} over e = by (fault_at C R x p E) refl e
     where
-      on : (i : Control) → C.control p ≡ i → Passed C R i x p E → Two r next ≡ parts_of R i x w p → TwoAsked C R x x' w w' p E r next
+      on : (i : Control) → C.control p ≡ i → Passed C R i x p E → given (Two r next) ≡ given (parts_of R i x w p) → TwoAsked C R x x' w w' p E r next
       on Unknown z o g = apart (cc)
       on Plain z o g = apart (cc)
       on Emit z o g = apart (cc)
@@ -179,17 +179,17 @@ module _ (C : Code) (R : Rules) (x x' : Opens) (w w' p E : ℕ) (same-loop : x'.
       on (Call c dst num) z o g = apart (cc)
       on (Jump c dst num) z o g = apart (cc)
 
-      by : (f : Fault) → fault_at C R x p E ≡ f → Two r next ≡ unless f (parts_of R (C.control p) x w p) → TwoAsked C R x x' w w' p E r next
+      by : (f : Fault) → fault_at C R x p E ≡ f → given (Two r next) ≡ unless f (parts_of R (C.control p) x w p) → TwoAsked C R x x' w w' p E r next
       by (At n q) f g = apart (cc)
       by Nothing f g = on (C.control p) refl (fault_none C R x p E f) g
 
 -- what a part weighs
 module _ (C : Code) (R : Rules) (x : Opens) (w p E : ℕ) where
-  one_weight : {r : Part} {next : WordAddress} → One r next ≡ look_of C R x w p E → r.weight ≡ w * turns_of R (C.control p)
+  one_weight : {r : Part} {next : WordAddress} → given (One r next) ≡ look_of C R x w p E → r.weight ≡ w * turns_of R (C.control p)
   unfolding look_of
   one_weight {r} {next} e = by (fault_at C R x p E) e
     where
-      on : (i : Control) → One r next ≡ parts_of R i x w p → r.weight ≡ w * turns_of R i
+      on : (i : Control) → given (One r next) ≡ given (parts_of R i x w p) → r.weight ≡ w * turns_of R i
       on Unknown g = apart (cc)
       on Plain g = apart (cc)
       on Emit g = apart (cc)
@@ -200,15 +200,15 @@ module _ (C : Code) (R : Rules) (x : Opens) (w p E : ℕ) where
       on (Call c dst num) g = let same : r ≡ part_of (in_call x) w dst.0 (dst.0 + num) = cc in rw same (omega arith)
       on (Jump c dst num) g = apart (cc)
 
-      by : (f : Fault) → One r next ≡ unless f (parts_of R (C.control p) x w p) → r.weight ≡ w * turns_of R (C.control p)
+      by : (f : Fault) → given (One r next) ≡ unless f (parts_of R (C.control p) x w p) → r.weight ≡ w * turns_of R (C.control p)
       by (At n q) g = apart (cc)
       by Nothing g = on (C.control p) g
 
-  two_weight : {r : Part} {next : WordAddress} → Two r next ≡ look_of C R x w p E → r.weight ≡ w
+  two_weight : {r : Part} {next : WordAddress} → given (Two r next) ≡ look_of C R x w p E → r.weight ≡ w
   unfolding look_of
   two_weight {r} {next} e = by (fault_at C R x p E) e
     where
-      on : (i : Control) → Two r next ≡ parts_of R i x w p → r.weight ≡ w
+      on : (i : Control) → given (Two r next) ≡ given (parts_of R i x w p) → r.weight ≡ w
       on Unknown g = apart (cc)
       on Plain g = apart (cc)
       on Emit g = apart (cc)
@@ -219,7 +219,7 @@ module _ (C : Code) (R : Rules) (x : Opens) (w p E : ℕ) where
       on (Call c dst num) g = apart (cc)
       on (Jump c dst num) g = apart (cc)
 
-      by : (f : Fault) → Two r next ≡ unless f (parts_of R (C.control p) x w p) → r.weight ≡ w
+      by : (f : Fault) → given (Two r next) ≡ unless f (parts_of R (C.control p) x w p) → r.weight ≡ w
       by (At n q) g = apart (cc)
       by Nothing g = on (C.control p) g
 
@@ -268,7 +268,7 @@ module _ (C : Code) (R : Rules) (part : Part) (before : ℕ) where
         }
 
     module _ (l : p < Z) (n : p < length m) where
-      pub prefix_next : Next ≡ look_of C R X W p Z → Prefix (p + 1) (t + W) d (set m p true)
+      pub prefix_next : given Next ≡ look_of C R X W p Z → Prefix (p + 1) (t + W) d (set m p true)
       prefix_next e =
           record {
             cost = f.cost + 1;
@@ -284,7 +284,7 @@ module _ (C : Code) (R : Rules) (part : Part) (before : ℕ) where
 
       -- a region that was passed, in other surroundings of its part
       passed_there : {r r' : Part} {f : ℕ} {x : Opens} {w q e k : ℕ} {m₁ : List Bool} (d₁ d₂ : Deep) (u : ℕ) (m' : List Bool) → Shift f X x W w r r' → Over d₁ r.opens → Passes C R r.opens.looped q e k (beyond d₁ r.opens) m₁
-          → Below d₁ d₂ → Room R x (beyond d₂ X) → u + r'.weight * k ≤ R.most → Covers m₁ m' → scanned (Go (u + r'.weight * k)) m' ≡ scan_of C R (part_of r'.opens r'.weight q e) u m'
+          → Below d₁ d₂ → Room R x (beyond d₂ X) → u + r'.weight * k ≤ R.most → Covers m₁ m' → scanned (given (u + r'.weight * k)) m' ≡ scan_of C R (part_of r'.opens r'.weight q e) u m'
       passed_there {r' = r'} d₁ d₂ u m' s over g below room fits c = sym (g.again r'.opens r'.weight u m' s.looped (part_room R d₁ d₂ s over below room) fits c)
 
       deep_left : (d₀ d₁ : Deep) → Below d₀ (deepest d₀ d₁)
@@ -300,7 +300,7 @@ module _ (C : Code) (R : Rules) (part : Part) (before : ℕ) where
       over_more : (d₁ e : Deep) (y : Opens) → Over d₁ y → Below d₁ e → Over e y
       over_more d₁ e y o b = (omega (arith, o, b), omega (arith, o, b), omega (arith, o, b))
 
-      pub prefix_one : {r : Part} {next : WordAddress} {t₁ : ℕ} {d₁ : Deep} {m₁ : List Bool} → One r next ≡ look_of C R X W p Z → Left C R r (t + W) t₁ d₁ m₁ → Covers (set m p true) m₁
+      pub prefix_one : {r : Part} {next : WordAddress} {t₁ : ℕ} {d₁ : Deep} {m₁ : List Bool} → given (One r next) ≡ look_of C R X W p Z → Left C R r (t + W) t₁ d₁ m₁ → Covers (set m p true) m₁
           → Prefix next.0 t₁ (deepest d d₁) m₁
       prefix_one {r} {next} {t₁} {d₁} {m₁} e g grown =
           let deep = deepest d d₁ in
@@ -315,13 +315,13 @@ module _ (C : Code) (R : Rules) (part : Part) (before : ℕ) where
                 let v = u + w * f.cost in
                 let weigh : o.part.weight * g.cost ≡ w * (turns_of R (C.control p) * g.cost) = ap (λ y. y * g.cost) s.weight ∙ mul_assoc w (turns_of R (C.control p)) g.cost in
                 let sum : u + w * (f.cost + 1 + turns_of R (C.control p) * g.cost) ≡ v + w + o.part.weight * g.cost = omega (arith, weigh) in
-                let there : scanned (Go (v + w + o.part.weight * g.cost)) m' ≡ scan_of C R o.part (v + w) m' = rw (s.from, s.to) (passed_there d₁ deep (v + w) m' s g.over g.passes (deep_right d d₁) room (omega (arith, sum)) c) in
+                let there : scanned (given (v + w + o.part.weight * g.cost)) m' ≡ scan_of C R o.part (v + w) m' = rw (s.from, s.to) (passed_there d₁ deep (v + w) m' s g.over g.passes (deep_right d d₁) room (omega (arith, sum)) c) in
                 let marks = ap (λ y. scan_of C R o.part (v + w) y) (sym (marked m m' p n (covers_trans grown c))) in
                 let step = scan_one C R (part_of x w p Z) p v m' h l (omega (arith, sum)) o.asks (there ∙ marks) refl in
                 rw sum (step ∙ f.again x w u m' same (less_room x d deep (deep_left d d₁) room) (omega (arith, sum)) (covers_trans (covers_set m p) (covers_trans grown c)));
           }
 
-      pub prefix_two : {r : Part} {next : WordAddress} {t₁ : ℕ} {d₁ : Deep} {m₁ : List Bool} → Two r next ≡ look_of C R X W p Z → LeftBoth C R r next (t + W) t₁ d₁ m₁ → Covers (set m p true) m₁
+      pub prefix_two : {r : Part} {next : WordAddress} {t₁ : ℕ} {d₁ : Deep} {m₁ : List Bool} → given (Two r next) ≡ look_of C R X W p Z → LeftBoth C R r next (t + W) t₁ d₁ m₁ → Covers (set m p true) m₁
           → Prefix next.0 t₁ (deepest d d₁) m₁
       prefix_two {r} {next} {t₁} {d₁} {m₁} e g grown =
           let deep = deepest d d₁ in
@@ -338,8 +338,8 @@ module _ (C : Code) (R : Rules) (part : Part) (before : ℕ) where
                 let weigh : w₁ * q.first ≡ w * q.first = ap (λ y. y * q.first) o.shift.weight ∙ omega arith in
                 let weigh' : w₁ * q.second ≡ w * q.second = ap (λ y. y * q.second) o.shift.weight ∙ omega arith in
                 let sum : u + w * (f.cost + 1 + g.cost) ≡ v + w + w₁ * q.first + w₁ * q.second = omega (arith, weigh, weigh', ap (λ y. w * y) q.sum) in
-                let there : scanned (Go (v + w + w₁ * q.first)) m' ≡ scan_of C R o.first (v + w) m' = rw (o.shift.from, o.shift.to) (passed_there d₁ deep (v + w) m' o.shift g.over q.before (deep_right d d₁) room (omega (arith, sum)) c) in
-                let there' : scanned (Go (v + w + w₁ * q.first + w₁ * q.second)) m' ≡ scan_of C R (after_part o.first next) (v + w + w₁ * q.first) m' = rw o.shift.to (passed_there d₁ deep (v + w + w₁ * q.first) m' o.shift g.over q.after (deep_right d d₁) room (omega (arith, sum)) c) in
+                let there : scanned (given (v + w + w₁ * q.first)) m' ≡ scan_of C R o.first (v + w) m' = rw (o.shift.from, o.shift.to) (passed_there d₁ deep (v + w) m' o.shift g.over q.before (deep_right d d₁) room (omega (arith, sum)) c) in
+                let there' : scanned (given (v + w + w₁ * q.first + w₁ * q.second)) m' ≡ scan_of C R (after_part o.first next) (v + w + w₁ * q.first) m' = rw o.shift.to (passed_there d₁ deep (v + w + w₁ * q.first) m' o.shift g.over q.after (deep_right d d₁) room (omega (arith, sum)) c) in
                 let marks = ap (λ y. scan_both C R o.first next (v + w) y) (sym (marked m m' p n (covers_trans grown c))) in
                 let step = scan_two C R (part_of x w p Z) p v m' h l (omega (arith, sum)) o.asks (both_go C R o.first next (v + w) m' there refl there' ∙ marks) refl in
                 rw sum (step ∙ f.again x w u m' same (less_room x d deep (deep_left d d₁) room) (omega (arith, sum)) (covers_trans (covers_set m p) (covers_trans grown c)));

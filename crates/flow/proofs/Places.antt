@@ -9,8 +9,8 @@ use lib.ListN.{length}
 use borrow.Author.Tests.{lt-ltb, le-ltb, le-leb, ne_eqb}
 use Rattle.answer.specs.Answers.{refused}
 use Rattle.answer.specs.Faults.{fault_if, or_else}
-use Rattle.answer.specs.declared.Fault.{Fault}
-use Rattle.answer.specs.declared.Fault.TheVariants.{Nothing, At}
+use Rattle.answer.specs.Faults.{Fault}
+use Rattle.answer.specs.Faults.{Nothing, At}
 use Rattle.flow.specs.Flow.{code_of, measured_by, flow_of, flow_answer}
 use Rattle.flow.specs.Own.{own_words, has}
 use Rattle.flow.specs.Rules.{Code, Rules, full_rules}

@@ -9,8 +9,9 @@ use lib.Dec.{leb, eqb}
 use lib.ListN.{get_or, set, replicate, length-set, length-replicate}
 use lib.Seq.{get_or-set_same, get_or-set_other}
 use borrow.Author.Tests.{leb-true, ltb-true, eqb-true, eqb-false}
-use Rattle.answer.specs.declared.Fault.{Fault}
-use Rattle.answer.specs.declared.Fault.TheVariants.{Nothing, At}
+use Rattle.answer.specs.Answers.{given}
+use Rattle.answer.specs.Faults.{Fault}
+use Rattle.answer.specs.Faults.{Nothing, At}
 use Rattle.binary.specs.Addresses.{word_address}
 use Rattle.binary.specs.declared.WordAddress.{WordAddress}
 use Rattle.instruction.specs.declared.flow_control.Control.{Control}
@@ -22,7 +23,6 @@ use Rattle.flow.specs.declared.look.Look.TheVariants.{Next, One, Two}
 use Rattle.flow.specs.declared.look.Opens.{Opens}
 use Rattle.flow.specs.declared.look.Part.{Part}
 use Rattle.flow.specs.declared.scan.Deep.{Deep}
-use Rattle.flow.specs.declared.scan.Scan.TheVariants.{Go}
 use Rattle.flow.proofs.Again.{jump_reaches}
 use Rattle.flow.proofs.Depth.{Passed, fault_none}
 use Rattle.flow.proofs.Passing.{covers_self, covers_trans, under_both}
@@ -39,11 +39,11 @@ unpacked_packed d h g =
 
 module _ (C : Code) (R : Rules) where
   -- the part that a word asks for
-  pub asks_one : (x : Opens) (w p E : ℕ) {r : Part} {next : WordAddress} → One r next ≡ look_of C R x w p E → Asks (C.control p) p r
+  pub asks_one : (x : Opens) (w p E : ℕ) {r : Part} {next : WordAddress} → given (One r next) ≡ look_of C R x w p E → Asks (C.control p) p r
   unfolding look_of
   asks_one x w p E {r} {next} e = by (fault_at C R x p E) e
     where
-      on : (i : Control) → One r next ≡ parts_of R i x w p → Asks i p r
+      on : (i : Control) → given (One r next) ≡ given (parts_of R i x w p) → Asks i p r
       on Unknown g = apart (cc)
       on Plain g = apart (cc)
       on Emit g = apart (cc)
@@ -54,16 +54,16 @@ module _ (C : Code) (R : Rules) where
       on (Call c dst num) g = let same : r ≡ part_of (in_call x) w dst.0 (dst.0 + num) = cc in rw same (refl, refl, refl)
       on (Jump c dst num) g = apart (cc)
 
-      by : (f : Fault) → One r next ≡ unless f (parts_of R (C.control p) x w p) → Asks (C.control p) p r
+      by : (f : Fault) → given (One r next) ≡ unless f (parts_of R (C.control p) x w p) → Asks (C.control p) p r
       by (At n q) g = apart (cc)
       by Nothing g = on (C.control p) g
 
   -- the parts that an IF asks for
-  pub asks_both : (x : Opens) (w p E : ℕ) {r : Part} {next : WordAddress} → Two r next ≡ look_of C R x w p E → AsksBoth (C.control p) p r next
+  pub asks_both : (x : Opens) (w p E : ℕ) {r : Part} {next : WordAddress} → given (Two r next) ≡ look_of C R x w p E → AsksBoth (C.control p) p r next
   unfolding look_of
   asks_both x w p E {r} {next} e = by (fault_at C R x p E) refl e
     where
-      on : (i : Control) → bad24 C i p E ≡ false → Two r next ≡ parts_of R i x w p → AsksBoth i p r next
+      on : (i : Control) → bad24 C i p E ≡ false → given (Two r next) ≡ given (parts_of R i x w p) → AsksBoth i p r next
       on Unknown o g = apart (cc)
       on Plain o g = apart (cc)
       on Emit o g = apart (cc)
@@ -78,16 +78,16 @@ module _ (C : Code) (R : Rules) where
       on (Call c dst num) o g = apart (cc)
       on (Jump c dst num) o g = apart (cc)
 
-      by : (f : Fault) → fault_at C R x p E ≡ f → Two r next ≡ unless f (parts_of R (C.control p) x w p) → AsksBoth (C.control p) p r next
+      by : (f : Fault) → fault_at C R x p E ≡ f → given (Two r next) ≡ unless f (parts_of R (C.control p) x w p) → AsksBoth (C.control p) p r next
       by (At n q) z g = apart (cc)
       by Nothing z g = on (C.control p) (fault_none C R x p E z).bounds g
 
   -- a word that went on: of a jump, that its target is good
-  next_recalled : (x : Opens) (w p E k : ℕ) (d : Deep) (m : List Bool) → Next ≡ look_of C R x w p E → Recalled C R m (C.control p) p k d
+  next_recalled : (x : Opens) (w p E k : ℕ) (d : Deep) (m : List Bool) → given Next ≡ look_of C R x w p E → Recalled C R m (C.control p) p k d
   unfolding look_of
   next_recalled x w p E k d m e = by (fault_at C R x p E) refl e
     where
-      on : (i : Control) → Passed C R i x p E → Next ≡ parts_of R i x w p → Recalled C R m i p k d
+      on : (i : Control) → Passed C R i x p E → given Next ≡ given (parts_of R i x w p) → Recalled C R m i p k d
       on Unknown o g = tt
       on Plain o g = tt
       on Emit o g = tt
@@ -98,7 +98,7 @@ module _ (C : Code) (R : Rules) where
       on (Call c dst num) o g = apart (cc)
       on (Jump c dst num) o g = jump_reaches C p E dst.0 (not_bad _ o.jumps)
 
-      by : (f : Fault) → fault_at C R x p E ≡ f → Next ≡ unless f (parts_of R (C.control p) x w p) → Recalled C R m (C.control p) p k d
+      by : (f : Fault) → fault_at C R x p E ≡ f → given Next ≡ unless f (parts_of R (C.control p) x w p) → Recalled C R m (C.control p) p k d
       by (At n q) f g = apart (cc)
       by Nothing f g = on (C.control p) (fault_none C R x p E f) g
 
@@ -188,7 +188,7 @@ module _ (C : Code) (R : Rules) where
             rw (c, get_or-set_other depths p z (packed d) 0 o) (y.recalls z (rw c at g))
 
   -- .. of a word without parts
-  pub memory_next : {m : List Bool} {costs depths : List ℕ} → Memory C R m costs depths → (x : Opens) (w p E : ℕ) → p < 512 → Next ≡ look_of C R x w p E
+  pub memory_next : {m : List Bool} {costs depths : List ℕ} → Memory C R m costs depths → (x : Opens) (w p E : ℕ) → p < 512 → given Next ≡ look_of C R x w p E
       → Memory C R m (set costs p 1) depths
   memory_next {m} {costs} {depths} y x w p E l e =
       record {
@@ -226,7 +226,7 @@ module _ (C : Code) (R : Rules) where
         }
 
     module _ (i : Control) (p : ℕ) (h : Asks i p r) (q : Recalled C R m i p k d) (g : Again) where
-      pub recalled_flow : scanned (Go (t + r.weight * k)) m ≡ scan_of C R r t m
+      pub recalled_flow : scanned (given (t + r.weight * k)) m ≡ scan_of C R r t m
       recalled_flow = sym ((recalled_passes i p r k d m h q).again r.opens r.weight t m refl g.room g.fits (covers_self m))
 
       pub recalled_left : Left C R r t (t + r.weight * k) (opened r.opens d) m
@@ -247,7 +247,7 @@ module _ (C : Code) (R : Rules) where
       sums : t + r.weight * passed.first + r.weight * passed.second ≡ t + r.weight * k
       sums = omega (arith, ap (λ y. r.weight * y) passed.sum)
 
-      pub recalled_both_flow : scanned (Go (t + r.weight * k)) m ≡ scan_both C R r next t m
+      pub recalled_both_flow : scanned (given (t + r.weight * k)) m ≡ scan_both C R r next t m
       recalled_both_flow =
           let first = passed.before.again r.opens r.weight t m refl g.room (omega (arith, g.fits, sums)) (covers_self m) in
           let second = passed.after.again r.opens r.weight (t + r.weight * passed.first) m refl g.room (omega (arith, g.fits, sums)) (covers_self m) in

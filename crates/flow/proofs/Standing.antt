@@ -1,21 +1,24 @@
 -- Scanning a part, own word by own word: what holds before each, and after each kind of word. Assumes nothing.
-use mathlib.Core.Path.{◌≡◌, refl, ◌∙◌}
+use mathlib.Core.Path.{◌≡◌, refl, ap, ◌∙◌}
 use mathlib.Core.Bool.{Bool, true, false}
 use mathlib.Core.List.{List}
-use Prim.Native.Nat.{ℕ, ◌+◌, ◌*◌, ◌-◌, ◌/◌, ◌^◌, ◌≤◌, ◌<◌}
+use Prim.Native.Nat.{ℕ, ◌+◌, ◌-◌, ◌/◌, ◌^◌, ◌≤◌, ◌<◌}
 use native.Mathlib.Omega.{arith}
 use lib.ListN.{length, get_or, set, length-set}
-use Rattle.binary.specs.Addresses.{word_address}
+use Rattle.std.specs.Prelude.{Result, Ok, Err}
+use Rattle.answer.specs.Answers.{given, refused}
+use Rattle.answer.specs.Reasons.{number_of}
+use Rattle.answer.specs.declared.Refusal.{Refusal}
+use Rattle.answer.specs.declared.reason.Reason.TheVariants.{TooLong}
 use Rattle.binary.specs.declared.WordAddress.{WordAddress}
-use Rattle.flow.specs.Inside.{rules_of, part_of, look_of, Weighs, scanned, scan_of, Covers, LeftBoth, after_part, beyond, Under, Small, deepest, deep_of, Asks, AsksBoth, packed, deep_at, Memory, goes_on, passed_over, Ready, Scans, ScansBoth}
+use Rattle.flow.specs.Inside.{rules_of, part_of, look_of, Weighs, scanned, scan_of, Covers, LeftBoth, after_part, beyond, Under, Small, deepest, deep_of, Asks, AsksBoth, packed, deep_at, Memory, goes_on, passed_over, counted, Ready, Scans, ScansBoth}
 use Rattle.flow.specs.Rules.{Code}
 use Rattle.flow.specs.declared.look.Allowed.{Allowed}
-use Rattle.flow.specs.declared.look.Look.TheVariants.{Refuse, Next, One, Two}
+use Rattle.flow.specs.declared.look.Look.TheVariants.{Next, One, Two}
 use Rattle.flow.specs.declared.look.Opens.{Opens}
 use Rattle.flow.specs.declared.look.Part.{Part}
 use Rattle.flow.specs.declared.scan.Deep.{Deep}
 use Rattle.flow.specs.declared.scan.Outcome.{Outcome}
-use Rattle.flow.specs.declared.scan.Scan.TheVariants.{Go, Stop}
 use Rattle.flow.proofs.Again.{goes_next}
 use Rattle.flow.proofs.Passing.{covers_self, covers_trans, covers_set, Prefix, prefix_none, prefix_next, prefix_one, prefix_two, prefix_end}
 use Rattle.flow.proofs.Remembering.{memory_grows, memory_more, memory_next, Again, recalled_flow, recalled_left, recalled_both_flow, recalled_both_left, remembered, remembered_both, both_left, cost_is}
@@ -54,24 +57,24 @@ module _ (C : Code) (a : Allowed) (part : Part) (total : ℕ) (m₀ : List Bool)
 
   module _ {m : List Bool} {costs depths : List ℕ} {p t : ℕ} {d : Deep} (h : E ≤ C.words) (few : C.words ≤ 512) (s : Standing m costs depths p t d) where
     -- a fault
-    stopped : {o : Outcome} {n : ℕ} {q : WordAddress} {m₁ : List Bool} {costs₁ depths₁ : List ℕ} → o.scan ≡ Stop n q → scanned o.scan m₁ ≡ scan_of C (rules_of a) part total m₀ → Covers m₀ m₁ → length m₁ ≡ 512
+    stopped : {o : Result Outcome Refusal} {r : Refusal} {m₁ : List Bool} {costs₁ depths₁ : List ℕ} → o ≡ Err r → scanned (counted o) m₁ ≡ scan_of C (rules_of a) part total m₀ → Covers m₀ m₁ → length m₁ ≡ 512
         → Memory C (rules_of a) m₁ costs₁ depths₁ → Scans C (rules_of a) part total m₀ o m₁ costs₁ depths₁
     stopped e f g l y = record { flow = f; grown = g; long = l; memory = y; left = λ u z. apart (cc) }
 
     -- the region's end
-    pub standing_end : {o : Outcome} → E ≤ p → o.scan ≡ Go t → o.deep ≡ d → Scans C (rules_of a) part total m₀ o m costs depths
-    standing_end {o} l e f =
+    pub standing_end : {u : Outcome} → E ≤ p → u.total ≡ t → u.deep ≡ d → Scans C (rules_of a) part total m₀ (Ok u) m costs depths
+    standing_end {u} l e f =
         record {
           flow = rw e (scan_end C (rules_of a) part p t m h l ∙ s.flow);
           grown = s.grown;
           long = s.long;
           memory = s.memory;
-          left = λ u z. let y : t ≡ u = cc in rw (f, ← y) (prefix_end C (rules_of a) part total h s.before l);
+          left = λ v z. let y : u ≡ v = cc in rw (← y, e, f) (prefix_end C (rules_of a) part total h s.before l);
         }
 
     module _ (l : p < E) where
-      pub standing_27 : {o : Outcome} → a.most < t + w → o.scan ≡ Stop 27 (word_address p) → Scans C (rules_of a) part total m₀ o m costs depths
-      standing_27 u e = stopped e (rw e (scan_27 C (rules_of a) part p t m h l u ∙ s.flow)) s.grown s.long s.memory
+      pub standing_27 : {r : Refusal} → a.most < t + w → r ≡ record { reason = TooLong; place = p } → Scans C (rules_of a) part total m₀ (Err r) m costs depths
+      standing_27 u e = rw e (stopped refl (scan_27 C (rules_of a) part p t m h l u ∙ s.flow) s.grown s.long s.memory)
 
       module _ (u : t + w ≤ a.most) where
         abbrev m' : List Bool
@@ -91,7 +94,7 @@ module _ (C : Code) (a : Allowed) (part : Part) (total : ℕ) (m₀ : List Bool)
 
         -- a word that goes on
         module _ (b : a.most < 2 ^ 32) where
-          stands_on : {costs₁ : List ℕ} → Next ≡ look_of C (rules_of a) part.opens w p E → Memory C (rules_of a) m' costs₁ depths → Standing m' costs₁ depths (p + 1) (t + w) d
+          stands_on : {costs₁ : List ℕ} → given Next ≡ look_of C (rules_of a) part.opens w p E → Memory C (rules_of a) m' costs₁ depths → Standing m' costs₁ depths (p + 1) (t + w) d
           stands_on e y =
               record {
                 from = omega (arith, s.from);
@@ -106,46 +109,46 @@ module _ (C : Code) (a : Allowed) (part : Part) (total : ℕ) (m₀ : List Bool)
           pub standing_known : goes_on (C.control p) (get_or costs p 0) E ≡ true → Standing m' costs depths (p + 1) (t + w) d
           standing_known k = stands_on (goes_next C (rules_of a) m part.opens w p E (get_or costs p 0) (deep_at depths p) k (s.memory.recalls p)) memory'
 
-          pub standing_next : Next ≡ look_of C (rules_of a) part.opens w p E → Standing m' (set costs p 1) depths (p + 1) (t + w) d
+          pub standing_next : given Next ≡ look_of C (rules_of a) part.opens w p E → Standing m' (set costs p 1) depths (p + 1) (t + w) d
           standing_next e = stands_on e (memory_next C (rules_of a) memory' part.opens w p E (omega arith) e)
 
-        pub standing_refuse : {o : Outcome} {n : ℕ} → Refuse n ≡ look_of C (rules_of a) part.opens w p E → o.scan ≡ Stop n (word_address p) → Scans C (rules_of a) part total m₀ o m' costs depths
-        standing_refuse e z = stopped z (rw z (scan_refuse C (rules_of a) part p t m h l u e ∙ s.flow)) grown' long' memory'
+        pub standing_refuse : {r : Refusal} → refused (number_of r.reason) r.place ≡ look_of C (rules_of a) part.opens w p E → Scans C (rules_of a) part total m₀ (Err r) m' costs depths
+        standing_refuse e = stopped refl (scan_refuse C (rules_of a) part p t m h l u e ∙ s.flow) grown' long' memory'
 
         -- a LOOP or a CALL, whose part was entered
-        module _ {r : Part} {next : WordAddress} (e : One r next ≡ look_of C (rules_of a) part.opens w p E) {o : Outcome} {m₁ : List Bool} {costs₁ depths₁ : List ℕ}
+        module _ {r : Part} {next : WordAddress} (e : given (One r next) ≡ look_of C (rules_of a) part.opens w p E) {o : Result Outcome Refusal} {m₁ : List Bool} {costs₁ depths₁ : List ℕ}
             (f : Scans C (rules_of a) r (t + w) m' o m₁ costs₁ depths₁) where
-          pub one_stopped : {n : ℕ} {q : WordAddress} → o.scan ≡ Stop n q → Scans C (rules_of a) part total m₀ o m₁ costs₁ depths₁
-          one_stopped z = stopped z (scan_one_stop C (rules_of a) part p t m h l u e f.flow z ∙ s.flow) (covers_trans grown' f.grown) f.long f.memory
+          pub one_stopped : {b : Refusal} → o ≡ Err b → Scans C (rules_of a) part total m₀ o m₁ costs₁ depths₁
+          one_stopped z = stopped z (scan_one_stop C (rules_of a) part p t m h l u e f.flow (ap counted z) ∙ s.flow) (covers_trans grown' f.grown) f.long f.memory
 
-          pub one_passed : {t₁ : ℕ} {d₁ : Deep} → p ≤ next.0 → t₁ < 2 ^ 32 → o.scan ≡ Go t₁ → d₁ ≡ deepest d o.deep → Standing m₁ costs₁ depths₁ next.0 t₁ d₁
-          one_passed {t₁} on small z y =
+          pub one_passed : {v : Outcome} {d₁ : Deep} → p ≤ next.0 → v.total < 2 ^ 32 → o ≡ Ok v → d₁ ≡ deepest d v.deep → Standing m₁ costs₁ depths₁ next.0 v.total d₁
+          one_passed {v} on small z y =
               record {
                 from = omega (arith, s.from);
                 small = small;
-                flow = scan_one C (rules_of a) part p t m h l u e f.flow z ∙ s.flow;
+                flow = scan_one C (rules_of a) part p t m h l u e f.flow (ap counted z) ∙ s.flow;
                 grown = covers_trans grown' f.grown;
                 long = f.long;
                 memory = f.memory;
-                before = rw y (prefix_one C (rules_of a) part total h s.before l here e (f.left t₁ z) f.grown);
+                before = rw y (prefix_one C (rules_of a) part total h s.before l here e (f.left v z) f.grown);
               }
 
         -- an IF, whose parts were entered
-        module _ {r : Part} {next : WordAddress} (e : Two r next ≡ look_of C (rules_of a) part.opens w p E) {o : Outcome} {m₁ : List Bool} {costs₁ depths₁ : List ℕ}
+        module _ {r : Part} {next : WordAddress} (e : given (Two r next) ≡ look_of C (rules_of a) part.opens w p E) {o : Result Outcome Refusal} {m₁ : List Bool} {costs₁ depths₁ : List ℕ}
             (f : ScansBoth C (rules_of a) r next (t + w) m' o m₁ costs₁ depths₁) where
-          pub two_stopped : {n : ℕ} {q : WordAddress} → o.scan ≡ Stop n q → Scans C (rules_of a) part total m₀ o m₁ costs₁ depths₁
-          two_stopped z = stopped z (scan_two_stop C (rules_of a) part p t m h l u e f.flow z ∙ s.flow) (covers_trans grown' f.grown) f.long f.memory
+          pub two_stopped : {b : Refusal} → o ≡ Err b → Scans C (rules_of a) part total m₀ o m₁ costs₁ depths₁
+          two_stopped z = stopped z (scan_two_stop C (rules_of a) part p t m h l u e f.flow (ap counted z) ∙ s.flow) (covers_trans grown' f.grown) f.long f.memory
 
-          pub two_passed : {t₁ : ℕ} {d₁ : Deep} → p ≤ next.0 → t₁ < 2 ^ 32 → o.scan ≡ Go t₁ → d₁ ≡ deepest d o.deep → Standing m₁ costs₁ depths₁ next.0 t₁ d₁
-          two_passed {t₁} on small z y =
+          pub two_passed : {v : Outcome} {d₁ : Deep} → p ≤ next.0 → v.total < 2 ^ 32 → o ≡ Ok v → d₁ ≡ deepest d v.deep → Standing m₁ costs₁ depths₁ next.0 v.total d₁
+          two_passed {v} on small z y =
               record {
                 from = omega (arith, s.from);
                 small = small;
-                flow = scan_two C (rules_of a) part p t m h l u e f.flow z ∙ s.flow;
+                flow = scan_two C (rules_of a) part p t m h l u e f.flow (ap counted z) ∙ s.flow;
                 grown = covers_trans grown' f.grown;
                 long = f.long;
                 memory = f.memory;
-                before = rw y (prefix_two C (rules_of a) part total h s.before l here e (f.left t₁ z) f.grown);
+                before = rw y (prefix_two C (rules_of a) part total h s.before l here e (f.left v z) f.grown);
               }
 
         -- what the word's part relies on
@@ -153,12 +156,12 @@ module _ (C : Code) (a : Allowed) (part : Part) (total : ℕ) (m₀ : List Bool)
         ready_part r within weighs under small = record { within = within; few = few; weighs = weighs; under = under; small = small; long = long'; memory = memory' }
 
 -- .. and a part that is scanned after another
-pub ready_after : {C : Code} {a : Allowed} {r : Part} {t : ℕ} {m m₁ : List Bool} {o : Outcome} {costs depths : List ℕ} (r' : Part) → C.words ≤ 512 → Scans C (rules_of a) r t m o m₁ costs depths
+pub ready_after : {C : Code} {a : Allowed} {r : Part} {t : ℕ} {m m₁ : List Bool} {o : Result Outcome Refusal} {costs depths : List ℕ} (r' : Part) → C.words ≤ 512 → Scans C (rules_of a) r t m o m₁ costs depths
     → r'.to.0 ≤ C.words → Weighs a r' → Under (rules_of a) (deep_of r'.opens) → Small a → Ready C a r' m₁ costs depths
 ready_after r' few f within weighs under small = record { within = within; few = few; weighs = weighs; under = under; small = small; long = f.long; memory = f.memory }
 
 -- .. of an IF's second part
-pub ready_second : {C : Code} {a : Allowed} {r : Part} {t : ℕ} {m m₁ : List Bool} {o : Outcome} {costs depths costs₁ depths₁ : List ℕ} (next : WordAddress) → Ready C a r m costs depths → Scans C (rules_of a) r t m o m₁ costs₁ depths₁ → next.0 ≤ C.words
+pub ready_second : {C : Code} {a : Allowed} {r : Part} {t : ℕ} {m m₁ : List Bool} {o : Result Outcome Refusal} {costs depths costs₁ depths₁ : List ℕ} (next : WordAddress) → Ready C a r m costs depths → Scans C (rules_of a) r t m o m₁ costs₁ depths₁ → next.0 ≤ C.words
     → Ready C a (after_part r next) m₁ costs₁ depths₁
 ready_second {r = r} next y f within = ready_after (after_part r next) y.few f within y.weighs y.under y.small
 
@@ -168,7 +171,7 @@ few_beyond a d x same h g = rw same (omega (arith, h.0, g.0), omega (arith, h.1,
 -- entering the part that a LOOP or a CALL at p asks for: it is remembered and fits; or it was scanned, and is remembered then
 module _ (C : Code) (a : Allowed) (r : Part) (t p : ℕ) (m : List Bool) {costs depths : List ℕ} (y : Ready C a r m costs depths) (h : Asks (C.control p) p r) where
   pub recalled_scans : {o : Outcome} → Again C (rules_of a) r t (get_or costs p 0) (deep_at depths p) m → o ≡ passed_over r t (get_or costs p 0) (deep_at depths p)
-      → Scans C (rules_of a) r t m o m costs depths
+      → Scans C (rules_of a) r t m (Ok o) m costs depths
   recalled_scans g e =
       let k = get_or costs p 0 in
       let d = deep_at depths p in
@@ -178,27 +181,27 @@ module _ (C : Code) (a : Allowed) (r : Part) (t p : ℕ) (m : List Bool) {costs 
         grown = covers_self m;
         long = y.long;
         memory = y.memory;
-        left = λ u z. let same : t + r.weight * k ≡ u = cc in rw (← same) (recalled_left C (rules_of a) r t k d m (C.control p) p h q g);
+        left = λ u z. let same : passed_over r t k d ≡ u = cc in rw (← same) (recalled_left C (rules_of a) r t k d m (C.control p) p h q g);
       })
 
-  module _ {o : Outcome} {m₁ : List Bool} {costs₁ depths₁ costs₂ depths₂ : List ℕ} (f : Scans C (rules_of a) r t m o m₁ costs₁ depths₁) where
-    pub remembered_scans : {t₁ k : ℕ} {d : Deep} → p < 512 → 1 ≤ r.weight → o.scan ≡ Go t₁ → k ≡ (t₁ - t) / r.weight → d ≡ beyond o.deep r.opens
+  module _ {o : Result Outcome Refusal} {m₁ : List Bool} {costs₁ depths₁ costs₂ depths₂ : List ℕ} (f : Scans C (rules_of a) r t m o m₁ costs₁ depths₁) where
+    pub remembered_scans : {v : Outcome} {k : ℕ} {d : Deep} → p < 512 → 1 ≤ r.weight → o ≡ Ok v → k ≡ (v.total - t) / r.weight → d ≡ beyond v.deep r.opens
         → costs₂ ≡ set costs₁ p k → depths₂ ≡ set depths₁ p (packed d) → Scans C (rules_of a) r t m o m₁ costs₂ depths₂
-    remembered_scans {t₁} {k} {d} l b z e e' c₁ c₂ =
-        let g = f.left t₁ z in
+    remembered_scans {v} {k} {d} l b z e e' c₁ c₂ =
+        let g = f.left v z in
         let same : k ≡ g.cost = e ∙ cost_is C (rules_of a) r.weight t g.cost b g.adds in
         record {
           flow = f.flow;
           grown = f.grown;
           long = f.long;
-          memory = rw (c₁, c₂, same, e') (memory_more C (rules_of a) f.memory p g.cost (beyond o.deep r.opens) l (few_beyond a o.deep r.opens refl y.small g.under) (remembered C (rules_of a) (C.control p) p r h g));
+          memory = rw (c₁, c₂, same, e') (memory_more C (rules_of a) f.memory p g.cost (beyond v.deep r.opens) l (few_beyond a v.deep r.opens refl y.small g.under) (remembered C (rules_of a) (C.control p) p r h g));
           left = f.left;
         }
 
 -- .. the two parts of an IF, with no LOOP open in the same main or called region
 module _ (C : Code) (a : Allowed) (r : Part) (next : WordAddress) (t p : ℕ) (m : List Bool) {costs depths : List ℕ} (y : Ready C a r m costs depths) (h : AsksBoth (C.control p) p r next) where
   pub recalled_both_scans : {o : Outcome} → r.opens.looped ≡ false → Again C (rules_of a) r t (get_or costs p 0) (deep_at depths p) m → o ≡ passed_over r t (get_or costs p 0) (deep_at depths p)
-      → ScansBoth C (rules_of a) r next t m o m costs depths
+      → ScansBoth C (rules_of a) r next t m (Ok o) m costs depths
   recalled_both_scans b g e =
       let k = get_or costs p 0 in
       let d = deep_at depths p in
@@ -208,35 +211,35 @@ module _ (C : Code) (a : Allowed) (r : Part) (next : WordAddress) (t p : ℕ) (m
         grown = covers_self m;
         long = y.long;
         memory = y.memory;
-        left = λ u z. let same : t + r.weight * k ≡ u = cc in rw (← same) (recalled_both_left C (rules_of a) r t k d m (C.control p) p next h b q g);
+        left = λ u z. let same : passed_over r t k d ≡ u = cc in rw (← same) (recalled_both_left C (rules_of a) r t k d m (C.control p) p next h b q g);
       })
 
   -- a fault in the first, a fault in the second, and none
-  module _ {o : Outcome} {m₁ : List Bool} {costs₁ depths₁ : List ℕ} (f : Scans C (rules_of a) r t m o m₁ costs₁ depths₁) where
-    pub both_stopped : {n : ℕ} {q : WordAddress} → o.scan ≡ Stop n q → ScansBoth C (rules_of a) r next t m o m₁ costs₁ depths₁
-    both_stopped z = record { flow = both_stop C (rules_of a) r next t m f.flow z; grown = f.grown; long = f.long; memory = f.memory; left = λ u e. apart (cc) }
+  module _ {o : Result Outcome Refusal} {m₁ : List Bool} {costs₁ depths₁ : List ℕ} (f : Scans C (rules_of a) r t m o m₁ costs₁ depths₁) where
+    pub both_stopped : {b : Refusal} → o ≡ Err b → ScansBoth C (rules_of a) r next t m o m₁ costs₁ depths₁
+    both_stopped z = record { flow = both_stop C (rules_of a) r next t m f.flow (ap counted z); grown = f.grown; long = f.long; memory = f.memory; left = λ u e. apart (cc) }
 
-    module _ {t₁ : ℕ} (z : o.scan ≡ Go t₁) {o' : Outcome} {m₂ : List Bool} {costs₂ depths₂ : List ℕ} (f' : Scans C (rules_of a) (after_part r next) t₁ m₁ o' m₂ costs₂ depths₂) where
-      pub both_stopped_2 : {n : ℕ} {q : WordAddress} → o'.scan ≡ Stop n q → ScansBoth C (rules_of a) r next t m o' m₂ costs₂ depths₂
+    module _ {v : Outcome} (z : o ≡ Ok v) {o' : Result Outcome Refusal} {m₂ : List Bool} {costs₂ depths₂ : List ℕ} (f' : Scans C (rules_of a) (after_part r next) v.total m₁ o' m₂ costs₂ depths₂) where
+      pub both_stopped_2 : {b : Refusal} → o' ≡ Err b → ScansBoth C (rules_of a) r next t m o' m₂ costs₂ depths₂
       both_stopped_2 e =
-          record { flow = both_go C (rules_of a) r next t m f.flow z f'.flow; grown = covers_trans f.grown f'.grown; long = f'.long; memory = f'.memory; left = λ u g. apart (cc) }
+          record { flow = both_go C (rules_of a) r next t m f.flow (ap counted z) f'.flow; grown = covers_trans f.grown f'.grown; long = f'.long; memory = f'.memory; left = λ u g. apart (cc) }
 
-      module _ {t₂ : ℕ} {d : Deep} (z' : o'.scan ≡ Go t₂) (e : d ≡ deepest o.deep o'.deep) where
-        pub left_both : LeftBoth C (rules_of a) r next t t₂ d m₂
-        left_both = rw e (both_left C (rules_of a) r next (f.left t₁ z) (f'.left t₂ z') f'.grown)
+      module _ {v' : Outcome} {d : Deep} (z' : o' ≡ Ok v') (e : d ≡ deepest v.deep v'.deep) where
+        pub left_both : LeftBoth C (rules_of a) r next t v'.total d m₂
+        left_both = rw e (both_left C (rules_of a) r next (f.left v z) (f'.left v' z') f'.grown)
 
-        pub both_passed : {o'' : Outcome} → o''.scan ≡ Go t₂ → o''.deep ≡ d → ScansBoth C (rules_of a) r next t m o'' m₂ costs₂ depths₂
-        both_passed e₁ e₂ =
+        pub both_passed : {u : Outcome} → u.total ≡ v'.total → u.deep ≡ d → ScansBoth C (rules_of a) r next t m (Ok u) m₂ costs₂ depths₂
+        both_passed {u} e₁ e₂ =
             record {
-              flow = rw (e₁, ← z') (both_go C (rules_of a) r next t m f.flow z f'.flow);
+              flow = rw e₁ (both_go C (rules_of a) r next t m f.flow (ap counted z) (rw z' at f'.flow));
               grown = covers_trans f.grown f'.grown;
               long = f'.long;
               memory = f'.memory;
-              left = λ u g. let same : t₂ ≡ u = cc in rw (e₂, ← same) left_both;
+              left = λ w g. let same : u ≡ w = cc in rw (← same, e₁, e₂) left_both;
             }
 
-        pub both_remembered : {o'' : Outcome} {k : ℕ} {d' : Deep} {costs₃ depths₃ : List ℕ} → o''.scan ≡ Go t₂ → o''.deep ≡ d → r.opens.looped ≡ false → p < 512 → 1 ≤ r.weight → k ≡ (t₂ - t) / r.weight
-            → d' ≡ beyond d r.opens → costs₃ ≡ set costs₂ p k → depths₃ ≡ set depths₂ p (packed d') → ScansBoth C (rules_of a) r next t m o'' m₂ costs₃ depths₃
+        pub both_remembered : {u : Outcome} {k : ℕ} {d' : Deep} {costs₃ depths₃ : List ℕ} → u.total ≡ v'.total → u.deep ≡ d → r.opens.looped ≡ false → p < 512 → 1 ≤ r.weight → k ≡ (v'.total - t) / r.weight
+            → d' ≡ beyond d r.opens → costs₃ ≡ set costs₂ p k → depths₃ ≡ set depths₂ p (packed d') → ScansBoth C (rules_of a) r next t m (Ok u) m₂ costs₃ depths₃
         both_remembered e₁ e₂ b l heavy k-is d-is c₁ c₂ =
             let g = both_passed e₁ e₂ in
             let same = k-is ∙ cost_is C (rules_of a) r.weight t left_both.cost heavy left_both.adds in

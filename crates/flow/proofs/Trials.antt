@@ -9,7 +9,8 @@ use Rattle.answer.specs.Answers.{Answer, given, refused}
 use Rattle.instruction.specs.Control.{control_of}
 use Rattle.instruction.specs.Operations.{operations, format_of}
 use Rattle.instruction.specs.Words.{decode_of}
-use Rattle.flow.specs.Flow.{code_of, Measured, flow_of}
+use Rattle.flow.specs.Flow.{code_of, flow_of}
+use Rattle.flow.specs.declared.entry.Measured.{Measured}
 use Rattle.flow.specs.Own.{own_from, own_words}
 use Rattle.flow.specs.Rules.{full_rules}
 use Rattle.flow.specs.Stepping.{Settings, main, start, Run, done, failed, unfinished, arrive, break, execute, step, run}

@@ -4,7 +4,7 @@ use mathlib.Core.List.{List, [], ◌∷◌}
 use Prim.Native.Nat.{ℕ, ◌≤◌, ◌<◌}
 use native.Mathlib.Omega.{arith}
 use lib.ListN.{length}
-use Rattle.answer.specs.declared.Fault.TheVariants.{Nothing}
+use Rattle.answer.specs.Faults.{Nothing}
 use Rattle.flow.specs.Rules.{Code, Rules}
 use Rattle.flow.specs.Stepping.{Settings, State, start}
 use Rattle.flow.specs.Visits.{Visit, main_trace, flow_fault, total, weighted}

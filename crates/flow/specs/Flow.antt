@@ -3,14 +3,13 @@
 use Rattle.std.specs.Prelude.{ℕ, not, ◌&&◌, ◌||◌, List, eqb, leb, ltb, length, get_or}
 use Rattle.answer.specs.Answers.{Answer, given, refused}
 use Rattle.answer.specs.Faults.{fault_if, or_else}
-use Rattle.answer.specs.declared.Fault.{Fault}
-use Rattle.answer.specs.declared.Fault.TheVariants.{Nothing, At}
+use Rattle.answer.specs.Faults.{Fault}
+use Rattle.answer.specs.Faults.{Nothing, At}
 use Rattle.instruction.specs.Control.{control_of}
 use Rattle.instruction.specs.Operands.{descriptor_of}
 use Rattle.flow.specs.Rules.{Code, Rules, full_rules}
 use Rattle.flow.specs.Visits.{Visit, main_trace, flow_fault, total, distinct}
-use Rattle.flow.specs.declared.entry.Flow.{Flow}
-use Rattle.flow.specs.declared.entry.Flow.TheVariants.{Passed, Refused}
+use Rattle.flow.specs.declared.entry.Measured.{Measured}
 
 -- the program of these words, with so many descriptors
 abbrev pub code_of : List ℕ → ℕ → Code
@@ -22,11 +21,6 @@ code_of ws descriptors =
       uses = λ p. descriptor_of (get_or ws p 0);
     }
 
--- what an accepted main is measured to be: the total, and the number of distinct words visited
-pub record Measured : Type 0 where
-  pub total : ℕ
-  pub words : ℕ
-
 abbrev pub measured_by : Fault → List Visit → Answer Measured
 measured_by (At number word) vs = refused number word
 measured_by Nothing vs = given (record { total = total vs; words = distinct vs })
@@ -34,11 +28,6 @@ measured_by Nothing vs = given (record { total = total vs; words = distinct vs }
 -- the first of 22 to 28 with its word, or the measures
 unfoldable pub flow_of : Rules → List ℕ → ℕ → ℕ → Answer Measured
 flow_of R ws main endmain = let C = code_of ws 0 in measured_by (flow_fault C R main endmain) (main_trace C R main endmain).visits
-
--- the code's enum, as an answer
-abbrev pub flowed : Flow → Answer Measured
-flowed (Passed total words) = given (record { total = total; words = words })
-flowed (Refused number word) = refused number word
 
 -- what the flow check relies on and no caller has to see to, with document 01's numbers, at 0. 7, of the words alone: 0 or over 512. 15: type not 0 or 1. 16: not main < endmain ≤ words
 abbrev pub entry_fault : List ℕ → ℕ → ℕ → ℕ → Fault

@@ -1,10 +1,9 @@
 -- What the functions inside this crate compute, for their contracts: the steps of the check, one word at a time. The rules are in Own and Visits.
 -- Assumes nothing.
-use Rattle.std.specs.Prelude.{◌≡◌, ℕ, zero, suc, ◌+◌, ◌*◌, ◌-◌, ◌/◌, ◌%◌, ◌^◌, ◌≤◌, ◌<◌, max, Bool, true, false, not, ◌&&◌, List, [], ◌∷◌, leb, ltb, length, get_or, set}
-use Rattle.answer.specs.Faults.{fault_if, or_else}
-use Rattle.answer.specs.declared.Fault.{Fault}
-use Rattle.answer.specs.declared.Fault.TheVariants.{Nothing}
-use Rattle.answer.specs.declared.Fault.TheVariants as fault
+use Rattle.std.specs.Prelude.{◌≡◌, ℕ, zero, suc, ◌+◌, ◌*◌, ◌-◌, ◌/◌, ◌%◌, ◌^◌, ◌≤◌, ◌<◌, max, Bool, true, false, not, ◌&&◌, List, [], ◌∷◌, Option, Some, None, Result, Ok, leb, ltb, length, get_or, set}
+use Rattle.answer.specs.Answers.{Answer, given, refused, map_answer, answered}
+use Rattle.answer.specs.Faults.{Fault, Nothing, At, fault_if, or_else}
+use Rattle.answer.specs.declared.Refusal.{Refusal}
 use Rattle.binary.specs.Addresses.{word_address}
 use Rattle.binary.specs.declared.WordAddress.{WordAddress}
 use Rattle.instruction.specs.declared.flow_control.Condition.{Condition}
@@ -15,25 +14,23 @@ use Rattle.flow.specs.Rules.{Code, Rules, in_if, in_loop, in_call, pick}
 use Rattle.flow.specs.Visits.{Visit, fault_at, trace}
 use Rattle.flow.specs.declared.look.Allowed.{Allowed}
 use Rattle.flow.specs.declared.look.Look.{Look}
-use Rattle.flow.specs.declared.look.Look.TheVariants.{Refuse, Next, One, Two}
+use Rattle.flow.specs.declared.look.Look.TheVariants.{Next, One, Two}
 use Rattle.flow.specs.declared.look.Opens.{Opens}
 use Rattle.flow.specs.declared.look.Part.{Part}
+use Rattle.flow.specs.declared.scan.Cost.{Cost}
 use Rattle.flow.specs.declared.scan.Deep.{Deep}
+use Rattle.flow.specs.declared.scan.Kept.{Kept}
 use Rattle.flow.specs.declared.scan.Outcome.{Outcome}
-use Rattle.flow.specs.declared.scan.Scan.{Scan}
-use Rattle.flow.specs.declared.scan.Scan.TheVariants as scan
-use Rattle.flow.specs.declared.own.After.{After}
-use Rattle.flow.specs.declared.own.After.TheVariants.{At, Stop}
 
--- the own word after the one at p, in a region that ends at E
-abbrev pub after_if : ℕ → ℕ → ℕ → ℕ → After
-after_if p E dst num = pick (leb (p + 2) dst && leb (dst + num) E) (At (dst + num)) Stop
+-- the own word after the one at p, in a region that ends at E; none where bounds are bad
+abbrev pub after_if : ℕ → ℕ → ℕ → ℕ → Option ℕ
+after_if p E dst num = pick (leb (p + 2) dst && leb (dst + num) E) (Some (dst + num)) None
 
-abbrev pub after_loop : ℕ → ℕ → ℕ → After
-after_loop p E dst = pick (leb (p + 1) dst && ltb dst E) (At (dst + 1)) Stop
+abbrev pub after_loop : ℕ → ℕ → ℕ → Option ℕ
+after_loop p E dst = pick (leb (p + 1) dst && ltb dst E) (Some (dst + 1)) None
 
-abbrev pub after_of : Control → ℕ → ℕ → After
-after_of i p E = pick (spans i p E) (At (next_of i p)) Stop
+abbrev pub after_of : Control → ℕ → ℕ → Option ℕ
+after_of i p E = pick (spans i p E) (Some (next_of i p)) None
 
 -- the rules of the code's limits: every LOOP is counted as 256 turns
 abbrev pub rules_of : Allowed → Rules
@@ -42,28 +39,28 @@ rules_of a = record { calls = a.calls; ifs = a.ifs; loops = a.loops; most = a.mo
 abbrev pub part_of : Opens → ℕ → ℕ → ℕ → Part
 part_of x w p E = record { opens = x; weight = w; from = word_address p; to = word_address E }
 
--- a fault is refused by its number; else what follows
-abbrev pub unless : Fault → Look → Look
-unless (fault.At number word) look = Refuse number
-unless Nothing look = look
+-- a fault is refused at its word; else what follows
+abbrev pub unless : Fault → Look → Answer Look
+unless (At number word) look = refused number word
+unless Nothing look = given look
 
 -- the tests of the words that have bounds or a target, in the order 24, 25 or 26, and their parts
-unfoldable pub look_if : Rules → Opens → ℕ → ℕ → ℕ → ℕ → ℕ → Look
+unfoldable pub look_if : Rules → Opens → ℕ → ℕ → ℕ → ℕ → ℕ → Answer Look
 look_if R x w p E dst num =
     unless (or_else (fault_if (not (leb (p + 2) dst && leb (dst + num) E)) 24 p) (fault_if (leb R.ifs x.ifs) 25 p))
     (Two (part_of (in_if x) w (p + 1) dst) (word_address (dst + num)))
 
-unfoldable pub look_loop : Rules → Opens → ℕ → ℕ → ℕ → ℕ → Look
+unfoldable pub look_loop : Rules → Opens → ℕ → ℕ → ℕ → ℕ → Answer Look
 look_loop R x w p E dst =
     unless (or_else (fault_if (not (leb (p + 1) dst && ltb dst E)) 24 p) (fault_if (leb R.loops x.loops) 25 p))
     (One (part_of (in_loop x) (w * 256) (p + 1) (dst + 1)) (word_address (dst + 1)))
 
-unfoldable pub look_call : Rules → Opens → ℕ → ℕ → ℕ → ℕ → ℕ → Look
+unfoldable pub look_call : Rules → Opens → ℕ → ℕ → ℕ → ℕ → ℕ → Answer Look
 look_call R x w p words dst num =
     unless (or_else (fault_if (not (leb 1 num && leb (dst + num) words)) 24 p) (fault_if (leb R.calls x.calls) 25 p))
     (One (part_of (in_call x) w dst (dst + num)) (word_address (p + 1)))
 
-unfoldable pub look_jump : Code → ℕ → ℕ → ℕ → Look
+unfoldable pub look_jump : Code → ℕ → ℕ → ℕ → Answer Look
 look_jump C p E dst = unless (fault_if (not (ltb p dst && (ltb dst E && has (own_words C (p + 1) E) dst))) 26 p) Next
 
 -- the parts of a word without a fault
@@ -79,7 +76,7 @@ parts_of R (Call c dst num) x w p = One (part_of (in_call x) w dst.0 (dst.0 + nu
 parts_of R (Jump c dst num) x w p = Next
 
 -- a visited word: its fault, or its parts
-unfoldable pub look_of : Code → Rules → Opens → ℕ → ℕ → ℕ → Look
+unfoldable pub look_of : Code → Rules → Opens → ℕ → ℕ → ℕ → Answer Look
 look_of C R x w p E = unless (fault_at C R x p E) (parts_of R (C.control p) x w p)
 
 -- a region weighs 256 for each LOOP open, multiplied; never more than two are
@@ -88,25 +85,25 @@ Weighs a r = (r.weight ≡ 256 ^ r.opens.loops) × (r.opens.loops ≤ a.loops) �
 
 -- what scanning visits leaves: the total, or the first fault's number and word; and the marks
 pub record Scanned : Type 0 where
-  pub flow : Scan
+  pub flow : Answer ℕ
   pub marks : List Bool
 
-abbrev pub scanned : Scan → List Bool → Scanned
+abbrev pub scanned : Answer ℕ → List Bool → Scanned
 scanned f m = record { flow = f; marks = m }
 
-abbrev pub stop_or : Fault → ℕ → List Bool → Scanned → Scanned
-stop_or (fault.At number word) p m next = scanned (scan.Stop number (word_address p)) m
-stop_or Nothing p m next = next
+abbrev pub stop_or : Fault → List Bool → Scanned → Scanned
+stop_or (At number word) m next = scanned (refused number word) m
+stop_or Nothing m next = next
 
 -- visits one after another, with a total and marks before them: 27, the mark, then 22 to 26
 module _ (C : Code) (R : Rules) where
   unfoldable pub replay : List Visit → ℕ → List Bool → Scanned
-  replay [] t m = scanned (scan.Go t) m
+  replay [] t m = scanned (given t) m
   replay (v ∷ vs) t m =
       let m' = set m v.word true in
       let rest = replay vs (t + v.weight) m' in
-      let on = stop_or (fault_at C R v.opens v.word v.end) v.word m' rest in
-      pick (ltb R.most (t + v.weight)) (scanned (scan.Stop 27 (word_address v.word)) m) on
+      let on = stop_or (fault_at C R v.opens v.word v.end) m' rest in
+      pick (ltb R.most (t + v.weight)) (scanned (refused 27 v.word) m) on
 
 -- how many of the first n have a property
 unfoldable pub count_to : ℕ → (ℕ → Bool) → ℕ
@@ -118,9 +115,9 @@ abbrev pub scan_of : Code → Rules → Part → ℕ → List Bool → Scanned
 scan_of C R r t m = replay C R (trace C R r.opens r.weight r.from.0 r.to.0).visits t m
 
 -- more visits after some: none after a stop
-abbrev pub and_after : Code → Rules → Scan → List Bool → List Visit → Scanned
-and_after C R (scan.Go t) m us = replay C R us t m
-and_after C R (scan.Stop n q) m us = scanned (scan.Stop n q) m
+abbrev pub and_after : Code → Rules → Answer ℕ → List Bool → List Visit → Scanned
+and_after C R (given t) m us = replay C R us t m
+and_after C R (refused n q) m us = scanned (refused n q) m
 
 abbrev pub replay_then : Code → Rules → Scanned → List Visit → Scanned
 replay_then C R s us = and_after C R s.flow s.marks us
@@ -154,7 +151,7 @@ pub record Covers (m m' : List Bool) : Type 0 where
 -- the region from p to E, with a LOOP open in the same main or called region or with none, costs k without the weight, needs room for d at most, and its words are marked in m:
 -- where it fits, visiting it adds weight × cost to the total and no mark
 pub record Passes (C : Code) (R : Rules) (looped : Bool) (p E k : ℕ) (d : Deep) (m : List Bool) : Type 0 where
-  pub again : (x : Opens) (w t : ℕ) (m' : List Bool) → x.looped ≡ looped → Room R x d → t + w * k ≤ R.most → Covers m m' → scan_of C R (part_of x w p E) t m' ≡ scanned (scan.Go (t + w * k)) m'
+  pub again : (x : Opens) (w t : ℕ) (m' : List Bool) → x.looped ≡ looped → Room R x d → t + w * k ≤ R.most → Covers m m' → scan_of C R (part_of x w p E) t m' ≡ scanned (given (t + w * k)) m'
 
 -- .. and the regions from p to q and from q to E, which cost k together
 pub record PassesBoth (C : Code) (R : Rules) (looped : Bool) (p q E k : ℕ) (d : Deep) (m : List Bool) : Type 0 where
@@ -239,6 +236,13 @@ unpacked n = record { calls = n / 65536; ifs = n / 256 % 256; loops = n % 256 }
 abbrev pub deep_at : List ℕ → ℕ → Deep
 deep_at depths p = unpacked (get_or depths p 0)
 
+-- what is kept of the word at p, and the same kept
+abbrev pub recalled : Kept → ℕ → Cost
+recalled k p = record { visits = get_or k.costs p 0; deep = deep_at k.depths p }
+
+abbrev pub remember : Kept → ℕ → ℕ → Deep → Kept
+remember k p visits d = record { marks = k.marks; costs = set k.costs p visits; depths = set k.depths p (packed d) }
+
 -- two arrays: the costs, 0 where nothing is remembered, and the depths. Of a jump whose target was found the cost is 1, and of EMIT and BREAK, where nothing reads it
 pub record Memory (C : Code) (R : Rules) (m : List Bool) (costs depths : List ℕ) : Type 0 where
   pub costs_long : length costs ≡ 512
@@ -256,7 +260,7 @@ Small a = (a.calls < 256) × (a.ifs < 256) × (a.loops < 256)
 
 -- what a part that fits leaves
 abbrev pub passed_over : Part → ℕ → ℕ → Deep → Outcome
-passed_over r t k d = record { scan = scan.Go (t + r.weight * k); deep = opened r.opens d }
+passed_over r t k d = record { total = t + r.weight * k; deep = opened r.opens d }
 
 -- true where a visited word is known to go on without its tests: it has none, or it is a jump whose target was found and lies in the region. Else they are made
 abbrev pub goes_on : Control → ℕ → ℕ → Bool
@@ -280,6 +284,10 @@ unfoldable pub mark_all : List Bool → ℕ → ℕ → List Bool
 mark_all m p zero = m
 mark_all m p (suc n) = mark_all (set m p true) (p + 1) n
 
+-- the code's answer to a scan, but for the depths
+abbrev pub counted : Result Outcome Refusal → Answer ℕ
+counted o = map_answer (λ (u : Outcome). u.total) (answered o)
+
 -- what scanning a part relies on, and what it leaves
 pub record Ready (C : Code) (a : Allowed) (r : Part) (m : List Bool) (costs depths : List ℕ) : Type 0 where
   pub within : r.to.0 ≤ C.words
@@ -290,17 +298,27 @@ pub record Ready (C : Code) (a : Allowed) (r : Part) (m : List Bool) (costs dept
   pub long : length m ≡ 512
   pub memory : Memory C (rules_of a) m costs depths
 
-pub record Scans (C : Code) (R : Rules) (r : Part) (before : ℕ) (m₀ : List Bool) (o : Outcome) (m : List Bool) (costs depths : List ℕ) : Type 0 where
-  pub flow : scanned o.scan m ≡ scan_of C R r before m₀
+pub record Scans (C : Code) (R : Rules) (r : Part) (before : ℕ) (m₀ : List Bool) (o : Result Outcome Refusal) (m : List Bool) (costs depths : List ℕ) : Type 0 where
+  pub flow : scanned (counted o) m ≡ scan_of C R r before m₀
   pub grown : Covers m₀ m
   pub long : length m ≡ 512
   pub memory : Memory C R m costs depths
-  pub left : (t : ℕ) → o.scan ≡ scan.Go t → Left C R r before t o.deep m
+  pub left : (u : Outcome) → o ≡ Ok u → Left C R r before u.total u.deep m
 
 -- .. and of two, one after the other up to next
-pub record ScansBoth (C : Code) (R : Rules) (r : Part) (next : WordAddress) (before : ℕ) (m₀ : List Bool) (o : Outcome) (m : List Bool) (costs depths : List ℕ) : Type 0 where
-  pub flow : scanned o.scan m ≡ scan_both C R r next before m₀
+pub record ScansBoth (C : Code) (R : Rules) (r : Part) (next : WordAddress) (before : ℕ) (m₀ : List Bool) (o : Result Outcome Refusal) (m : List Bool) (costs depths : List ℕ) : Type 0 where
+  pub flow : scanned (counted o) m ≡ scan_both C R r next before m₀
   pub grown : Covers m₀ m
   pub long : length m ≡ 512
   pub memory : Memory C R m costs depths
-  pub left : (t : ℕ) → o.scan ≡ scan.Go t → LeftBoth C R r next before t o.deep m
+  pub left : (u : Outcome) → o ≡ Ok u → LeftBoth C R r next before u.total u.deep m
+
+-- these, of what is kept
+abbrev pub ReadyFor : Code → Allowed → Part → Kept → Type 0
+ReadyFor C a r k = Ready C a r k.marks k.costs k.depths
+
+abbrev pub ScansTo : Code → Rules → Part → ℕ → Kept → Result Outcome Refusal → Kept → Type 0
+ScansTo C R r before k o k' = Scans C R r before k.marks o k'.marks k'.costs k'.depths
+
+abbrev pub ScansBothTo : Code → Rules → Part → WordAddress → ℕ → Kept → Result Outcome Refusal → Kept → Type 0
+ScansBothTo C R r next before k o k' = ScansBoth C R r next before k.marks o k'.marks k'.costs k'.depths

@@ -1,8 +1,7 @@
 -- What the flow check and the stepping rules go by: the kinds of the words, and limits that are parameters.
 -- Assumes nothing.
-use Rattle.std.specs.Prelude.{ℕ, ◌+◌, Bool, true, false}
+use Rattle.std.specs.Prelude.{ℕ, ◌+◌, Bool, true, false, Option}
 use Rattle.instruction.specs.declared.flow_control.Control.{Control}
-use Rattle.instruction.specs.declared.operand.DescriptorId.{DescriptorId}
 use Rattle.flow.specs.declared.look.Opens.{Opens}
 
 -- a program: how many words and descriptors it has, and of each word what it does to control flow and which descriptor it uses
@@ -10,7 +9,7 @@ pub record Code : Type 0 where
   pub words : ℕ
   pub descriptors : ℕ
   pub control : ℕ → Control
-  pub uses : ℕ → DescriptorId
+  pub uses : ℕ → Option ℕ
 
 -- the most calls, IFs and LOOPs open and the most total; how many turns of a LOOP over a register are counted; whether EMIT and SETEMIT are allowed
 pub record Rules : Type 0 where

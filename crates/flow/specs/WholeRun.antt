@@ -1,16 +1,15 @@
 -- What is claimed of a whole run (demand 3): one finite list of fetches that ends with END, each inside the tables and the limits, and no more of them than a bound.
 -- Assumes nothing.
-use Rattle.std.specs.Prelude.{ℕ, ◌+◌, ◌≤◌, ◌<◌, ◌≡◌, List, [], ◌∷◌, length}
+use Rattle.std.specs.Prelude.{ℕ, ◌+◌, ◌≤◌, ◌<◌, ◌≡◌, List, [], ◌∷◌, length, Some}
 use Rattle.instruction.specs.declared.flow_control.Control.TheVariants.{Unknown, Loop}
 use Rattle.binary.specs.declared.WordAddress.{WordAddress}
-use Rattle.instruction.specs.declared.operand.DescriptorId.TheVariants.{Id}
 use Rattle.flow.specs.Rules.{Code}
 use Rattle.flow.specs.Stepping.{Open, main, part, body, called, Settings, State, done, run}
 
 -- a word that passes 9, 11 and 12: known, its descriptor in the table, a LOOP's register at most 3
 pub record GoodWord (C : Code) (p : ℕ) : Type 0 where
   pub known : C.control p ≡ Unknown → ⊥
-  pub described : (n : ℕ) → C.uses p ≡ Id n → n < C.descriptors
+  pub described : (n : ℕ) → C.uses p ≡ Some n → n < C.descriptors
   pub register : {r : ℕ} {d : WordAddress} → C.control p ≡ Loop r d → r ≤ 3
 
 -- 'Open at a fetch are the CALLs, IFs and LOOPs whose regions have not closed, a LOOP once for all turns'
@@ -38,7 +37,7 @@ open_loops (called e q ∷ os) = open_loops os
 -- a fetch inside the opcode table, its descriptor inside its table, with at most so many calls, IFs and LOOPs open
 pub record Good (C : Code) (calls ifs loops : ℕ) (s : State) : Type 0 where
   pub inside : s.word < C.words
-  pub described : (n : ℕ) → C.uses s.word ≡ Id n → n < C.descriptors
+  pub described : (n : ℕ) → C.uses s.word ≡ Some n → n < C.descriptors
   pub few_calls : open_calls s.opens ≤ calls
   pub few_ifs : open_ifs s.opens ≤ ifs
   pub few_loops : open_loops s.opens ≤ loops

@@ -1,6 +1,7 @@
 // The flow check of one main.
 ghost use Rattle.std.specs.Prelude.{◌≡◌, false, ◌&&◌, ◌≤◌, ◌<◌, ◌-◌, length, get_or};
-ghost use Rattle.flow.specs.Flow.{code_of, flowed, flow_of, flow_answer};
+ghost use Rattle.answer.specs.Answers.{answered};
+ghost use Rattle.flow.specs.Flow.{code_of, flow_of, flow_answer};
 ghost use Rattle.flow.specs.Inside.{count_to};
 ghost use Rattle.flow.specs.Own.{own_words, has};
 ghost use Rattle.flow.specs.Rules.{full_rules};
@@ -8,29 +9,23 @@ ghost use Rattle.flow.specs.Visits.{is_end};
 
 use crate::look::{Allowed, Opens, Part};
 use crate::own::is_own;
-use crate::scan::{Scan, scan_main};
+use crate::scan::{Kept, Scan};
+use answer::{Reason, Refusal};
 use binary::WordAddress;
 use instruction::{Control, control_of};
 
-// The total and the number of distinct words visited, or a fault's number and word; 7, 15 and 16 have no word, and 0 as their place.
-#[derive(Clone, Copy)]
-pub enum Flow {
-    Passed { total: u32, words: u32 },
-    Refused { number: u32, word: u32 },
+// What an accepted main is measured to be: its total and how many distinct words are visited.
+#[derive(Clone, Copy, Debug, PartialEq, Eq)]
+pub struct Measured {
+    pub total: u32,
+    pub words: u32,
 }
 
-// The marks of so many words: there are none past the words.
-fn count_marks(marks: &[bool; 512], words: usize) -> u32
-    requires { words ≤ 512 }
-    ensures { result ≡ count_to words (λ i. get_or marks.now i false) }
+fn count_marks(marks: &[bool]) -> u32
+    requires { length marks.now ≤ 512 }
+    ensures { result ≡ count_to (length marks.now) (λ i. get_or marks.now i false) }
 {
-    let mut count = 0;
-    let mut i = 0;
-    while i < words {
-        count += marks[i] as u32;
-        i += 1;
-    }
-    count
+    marks.iter().map(|mark| *mark as u32).sum()
 }
 
 // Whether main's last word is END, and an own word of main.
@@ -39,24 +34,13 @@ fn ends_well(words: &[u32], main: u32, endmain: u32) -> bool
     ensures { result ≡ (is_end ((code_of words.now 0).control (endmain - 1)) && has (own_words (code_of words.now 0) main endmain) (endmain - 1)) }
 {
     let last = endmain - 1;
-    let at = last as usize;
-    match control_of(words[at]) {
-        Control::End => is_own(words, endmain, main, last),
-        Control::Unknown => false,
-        Control::Plain => false,
-        Control::Emit => false,
-        Control::Break(_) => false,
-        Control::If(_, _, _) => false,
-        Control::Loop(_, _) => false,
-        Control::Call(_, _, _) => false,
-        Control::Jump(_, _, _) => false,
-    }
+    matches!(control_of(words[last as usize]), Control::End) && is_own(words, endmain, main, last)
 }
 
 // The check of a main that lies inside the words, at document 01's limits.
-fn measure(words: &[u32], emits: bool, main: u32, endmain: u32) -> Flow
+fn measure(words: &[u32], emits: bool, main: u32, endmain: u32) -> Result<Measured, Refusal>
     requires { (main < endmain) × (endmain ≤ length words.now) × (length words.now ≤ 512) }
-    ensures { flowed result ≡ flow_of (full_rules emits) words.now main endmain }
+    ensures { answered result ≡ flow_of (full_rules emits) words.now main endmain }
 {
     let allowed = Allowed {
         calls: 4,
@@ -77,50 +61,35 @@ fn measure(words: &[u32], emits: bool, main: u32, endmain: u32) -> Flow
         from: WordAddress(main),
         to: WordAddress(endmain),
     };
-    let mut marks = [false; 512];
-    match scan_main(words, allowed, &mut marks, part) {
-        Scan::Stop(number, word) => Flow::Refused {
-            number,
-            word: word.0,
-        },
-        Scan::Go(total) => {
-            if ends_well(words, main, endmain) {
-                let count = count_marks(&marks, words.len());
-                Flow::Passed {
-                    total,
-                    words: count,
-                }
-            } else {
-                Flow::Refused {
-                    number: 28,
-                    word: endmain - 1,
-                }
-            }
-        }
+    let mut kept = Kept {
+        marks: [false; 512],
+        costs: [0; 512],
+        depths: [0; 512],
+    };
+    let outcome = kept.scan_part(Scan { words, allowed }, part, 0)?;
+    if !ends_well(words, main, endmain) {
+        return Err(Reason::BadEnd.at(endmain - 1));
     }
+    Ok(Measured {
+        total: outcome.total,
+        words: count_marks(&kept.marks[..words.len()]),
+    })
 }
 
-// The flow check of main, in words of a shader type: 22 to 28, and of the rest 7, 15 and 16 as far as it relies on them. Words that 9 to 12 refuse may pass.
-pub fn flow_of(words: &[u32], shader_type: u8, main: u32, endmain: u32) -> Flow
-    ensures { flowed result ≡ flow_answer words.now shader_type main endmain }
+// The flow check of main, in words of a shader type: 22 to 28, and of the rest 7, 15 and 16 as far as it
+// relies on them. Words that 9 to 12 refuse may pass.
+#[tactic(auto, unfolding(crate::specs::Flow::flow_answer))]
+pub fn flow_of(words: &[u32], shader_type: u8, main: u32, endmain: u32) -> Result<Measured, Refusal>
+    ensures { answered result ≡ flow_answer words.now shader_type main endmain }
 {
-    let count = words.len();
-    if (count == 0) | (512 < count) {
-        return Flow::Refused { number: 7, word: 0 };
+    if words.is_empty() || 512 < words.len() {
+        return Err(Reason::TableSizes.at(0));
     }
     if 1 < shader_type {
-        return Flow::Refused {
-            number: 15,
-            word: 0,
-        };
+        return Err(Reason::UnknownType.at(0));
     }
-    let end = endmain as usize;
-    if (main < endmain) & (end <= count) {
-        measure(words, shader_type == 1, main, endmain)
-    } else {
-        Flow::Refused {
-            number: 16,
-            word: 0,
-        }
+    if endmain <= main || words.len() < endmain as usize {
+        return Err(Reason::BadEntry.at(0));
     }
+    measure(words, shader_type == 1, main, endmain)
 }

@@ -1,4 +1,5 @@
-// The flow check of one main: the visits that document 01 asks for, their total and the distinct words among them, or the first fault.
+// The flow check of one main: the visits that document 01 asks for, their total and the distinct words among
+// them, or the first fault.
 
 #![tactic(auto)]
 
@@ -7,7 +8,4 @@ mod look;
 mod own;
 mod scan;
 
-pub use entry::{Flow, flow_of};
-pub use look::{Allowed, Look, Opens, Part};
-pub use own::After;
-pub use scan::{Deep, Outcome, Scan};
+pub use entry::{Measured, flow_of};

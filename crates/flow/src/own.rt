@@ -7,58 +7,46 @@ ghost use Rattle.flow.specs.Own.{own_words, has};
 
 use instruction::{Control, control_of, is_block};
 
-// The own word after another; none after an IF or LOOP with bad bounds.
-#[derive(Clone, Copy)]
-pub enum After {
-    At(u32),
-    Stop,
-}
-
-// Sums of an address and a count are made in 64 bits: a word may hold any DST and NUM.
-pub(crate) fn after_if(p: u32, end: u32, dst: u32, num: u32) -> After
+// The own word after an IF; none where its bounds are bad. Sums of an address and a count are made in 64
+// bits: a word may hold any DST and NUM.
+pub(crate) fn after_if(p: u32, end: u32, dst: u32, num: u32) -> Option<u32>
     ensures { result ≡ after_if p end dst num }
 {
     let next = dst as u64 + num as u64;
-    if (dst as u64) < p as u64 + 2 {
-        return After::Stop;
+    if p as u64 + 2 <= dst as u64 && next <= end as u64 {
+        Some(next as u32)
+    } else {
+        None
     }
-    if (end as u64) < next {
-        return After::Stop;
-    }
-    After::At(next as u32)
 }
 
-pub(crate) fn after_loop(p: u32, end: u32, dst: u32) -> After
+// The same of a LOOP.
+pub(crate) fn after_loop(p: u32, end: u32, dst: u32) -> Option<u32>
     ensures { result ≡ after_loop p end dst }
 {
-    if dst <= p {
-        return After::Stop;
+    if p < dst && dst < end {
+        Some(dst + 1)
+    } else {
+        None
     }
-    if end <= dst {
-        return After::Stop;
-    }
-    After::At(dst + 1)
 }
 
-pub(crate) fn own_after(words: &[u32], end: u32, p: u32) -> After
+// The own word after another; none after an IF or LOOP with bad bounds. Not expanded where it is called, so
+// that the search over words that are no block stays short.
+#[inline(never)]
+fn own_after(words: &[u32], end: u32, p: u32) -> Option<u32>
     requires { (end ≤ length words.now) × (p < end) }
     ensures { result ≡ after_of (control_of (get_or words.now p 0)) p end }
 {
-    let at = p as usize;
-    match control_of(words[at]) {
+    match control_of(words[p as usize]) {
         Control::If(_, dst, num) => after_if(p, end, dst.0, num),
         Control::Loop(_, dst) => after_loop(p, end, dst.0),
-        Control::Unknown => After::At(p + 1),
-        Control::Plain => After::At(p + 1),
-        Control::Emit => After::At(p + 1),
-        Control::End => After::At(p + 1),
-        Control::Break(_) => After::At(p + 1),
-        Control::Call(_, _, _) => After::At(p + 1),
-        Control::Jump(_, _, _) => After::At(p + 1),
+        _ => Some(p + 1),
     }
 }
 
-// Whether a word is one of the own words from another on. These ascend, so the search ends at the word; most words are no block, and then the next word is the next own word.
+// Whether a word is one of the own words from another on. These ascend, so the search ends at the word; most
+// words are no block, and then the next word is the next own word.
 pub(crate) fn is_own(words: &[u32], end: u32, from: u32, word: u32) -> bool
     requires { end ≤ length words.now }
     ensures { result ≡ has (own_words (code_of words.now 0) from end) word }
@@ -68,18 +56,13 @@ pub(crate) fn is_own(words: &[u32], end: u32, from: u32, word: u32) -> bool
     }
     let mut p = from;
     while p < word {
-        let at = p as usize;
-        if !is_block(words[at]) {
-            p += 1;
-            continue;
-        }
-        match own_after(words, end, p) {
-            After::At(next) => {
-                p = next;
-            }
-            After::Stop => {
+        if is_block(words[p as usize]) {
+            let Some(next) = own_after(words, end, p) else {
                 return false;
-            }
+            };
+            p = next;
+        } else {
+            p += 1;
         }
     }
     p == word

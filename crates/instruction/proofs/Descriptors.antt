@@ -1,4 +1,5 @@
--- The parts of an operand descriptor are those of its layout: no bit is left out, and none is read twice. Assumes nothing.
+-- The parts of an operand descriptor are those of its layout: no bit is left out, and none is read twice.
+-- Assumes nothing.
 use mathlib.Core.Path.{◌≡◌}
 use mathlib.Core.List.{List}
 use Prim.Native.Nat.{ℕ, ◌^◌, ◌<◌}

@@ -1,80 +1,95 @@
--- The list of operations, read by opcode and by number: what holds at each of the 64 opcodes, and past them. Assumes nothing.
-use mathlib.Core.Path.{◌≡◌, refl, sym, ap, ◌∙◌}
-use mathlib.Core.Bool.{Bool, true, false, ◌&&◌, and-false}
+-- The list of operations, read by opcode and by number, is what the code goes by: ranges of numbers.
+-- Assumes nothing.
+use mathlib.Core.Path.{◌≡◌, refl, ◌∙◌}
+use mathlib.Core.Bool.{Bool, true, ◌&&◌, ◌||◌, and-false}
 use mathlib.Core.List.{List, [], ◌∷◌}
-use Prim.Native.Nat.{ℕ, ◌+◌, ◌<◌, ◌≤◌}
+use Prim.Native.Nat.{ℕ, ◌<◌, ◌≤◌}
 use native.Mathlib.Omega.{arith}
 use lib.Dec.{T, leb, ltb, ltb→lt, eqb}
-use lib.ListN.{get_or}
-use mathlib.Core.Logic.{◌⊎◌, inl, inr}
 use mir.Facts.{and_yes}
-use borrow.Author.Tests.{lt-leb, ne_eqb, ltb-true, ltb-false}
-use Rattle.bits.proofs.Ranges.{all_from, same_from}
-use Rattle.instruction.specs.Operations.{Operation, operations, format_where, tag, format_of, entry_format}
+use borrow.Author.Tests.{lt-leb, eq-eqb}
+use Rattle.std.proofs.Common.{Option, Some, None, cond}
+use Rattle.instruction.proofs.Tables.{same_all}
+use Rattle.std.proofs.lemmas.Bool.Decides.{nat_tests}
+use Rattle.instruction.specs.Operations.{Operation, operations, format_where, tag, is_format, format_of, entry_format}
 use Rattle.instruction.specs.declared.operation.Format.{Format}
-use Rattle.instruction.specs.declared.operation.Format.TheVariants.{Unlisted, F0, F1, F1i, F1u, F1c, F2, F3, F4, F5, F5i}
+use Rattle.instruction.specs.declared.operation.Format.TheVariants.{F0, F1, F1i, F1u, F1c, F2, F3, F4, F5, F5i}
 
-formats : List Format
-formats = Unlisted ∷ F0 ∷ F1 ∷ F1i ∷ F1u ∷ F1c ∷ F2 ∷ F3 ∷ F4 ∷ F5 ∷ F5i ∷ []
+pub of_format : (o : Option Format) (f : Format) → is_format o f ≡ true → o ≡ Some f
+of_format o f e = grind (arith, nat_tests)
 
-of_tag : (f : Format) → get_or formats (tag f) Unlisted ≡ f
-unfolding formats
-of_tag Unlisted = refl
-of_tag F0 = refl
-of_tag F1 = refl
-of_tag F1i = refl
-of_tag F1u = refl
-of_tag F1c = refl
-of_tag F2 = refl
-of_tag F3 = refl
-of_tag F4 = refl
-of_tag F5 = refl
-of_tag F5i = refl
-
-pub same_tag : {f g : Format} → tag f ≡ tag g → f ≡ g
-same_tag {f} {g} e = sym (of_tag f) ∙ ap (λ (n : ℕ). get_or formats n Unlisted) e ∙ of_tag g
-
-pub apart : (a b : ℕ) → (a ≡ b → ⊥) → (a < b) ⊎ (b < a)
-apart a b n = by (ltb a b) refl
-  where
-    by : (t : Bool) → ltb a b ≡ t → (a < b) ⊎ (b < a)
-    by true e = inl (ltb-true a b e)
-    by false e = inr (omega (arith, ltb-false a b e))
-
-pub beyond : (k : ℕ) {a : ℕ} → (a ≡ k → ⊥) → k ≤ a → k < a
-beyond k n h = omega (arith, n)
-
--- at each opcode of a range, by computing
-pub format_in : (f : Format) (lo n : ℕ) → T (all_from (λ k. eqb (tag (format_of k)) (tag f)) lo n) → (k : ℕ) → lo ≤ k → k < lo + n → f ≡ format_of k
-format_in f lo n t k h l = sym (same_tag (same_from (λ k. tag (format_of k)) (λ k. tag f) lo n t k h l))
-
-pub entry_in : (f : ℕ → Format) (lo n : ℕ) → T (all_from (λ k. eqb (tag (f k)) (tag (entry_format k))) lo n) → (k : ℕ) → lo ≤ k → k < lo + n → f k ≡ entry_format k
-entry_in f lo n t k h l = same_tag (same_from (λ k. tag (f k)) (λ k. tag (entry_format k)) lo n t k h l)
+pub is_itself : (f : Format) → is_format (Some f) f ≡ true
+is_itself f = eq-eqb (tag f) (tag f) refl
 
 -- past 3Fh there is no operation
-abbrev below_all : ℕ → List Operation → Bool
-below_all n [] = true
-below_all n (o ∷ os) = ltb o.lowest n && ltb o.highest n && below_all n os
+abbrev ends_below : ℕ → List Operation → Bool
+ends_below n [] = true
+ends_below n (o ∷ os) = ltb o.highest n && ends_below n os
 
-module _ (k : ℕ) (h : 64 ≤ k) where
-  no_opcode : (os : List Operation) → T (below_all 64 os) → format_where (λ o. leb o.lowest k && leb k o.highest) os ≡ Unlisted
-  no_opcode [] t = refl
-  no_opcode (o ∷ os) t =
-      let p = and_yes (ltb o.lowest 64 && ltb o.highest 64) (below_all 64 os) t in
-      let high : o.highest < 64 = ltb→lt o.highest 64 (and_yes (ltb o.lowest 64) (ltb o.highest 64) p.0).1 in
-      rw (lt-leb k o.highest (omega arith), and-false) (no_opcode os p.1)
+none_past : (k : ℕ) → 64 ≤ k → (os : List Operation) → T (ends_below 64 os) → format_where (λ o. leb o.lowest k && leb k o.highest) os ≡ None
+none_past k h [] t = refl
+none_past k h (o ∷ os) t =
+    let p = and_yes (ltb o.highest 64) (ends_below 64 os) t in
+    let high : o.highest < 64 = ltb→lt o.highest 64 p.0 in
+    rw (lt-leb k o.highest (omega arith), and-false) (none_past k h os p.1)
 
-  no_number : (os : List Operation) → T (below_all 64 os) → format_where (λ o. eqb k o.lowest) os ≡ Unlisted
-  no_number [] t = refl
-  no_number (o ∷ os) t =
-      let p = and_yes (ltb o.lowest 64 && ltb o.highest 64) (below_all 64 os) t in
-      let low : o.lowest < 64 = ltb→lt o.lowest 64 (and_yes (ltb o.lowest 64) (ltb o.highest 64) p.0).0 in
-      rw (ne_eqb k o.lowest (omega arith)) (no_number os p.1)
+pub format_past : (k : ℕ) → 64 ≤ k → format_of k ≡ None
+unfolding format_of operations
+format_past k h = none_past k h operations tt
 
-  pub format_past : format_of k ≡ Unlisted
-  unfolding format_of operations
-  format_past = no_opcode operations tt
+entry_past : (k : ℕ) → 64 ≤ k → entry_format k ≡ None
+unfolding entry_format operations
+entry_past k h = grind (arith, nat_tests)
 
-  pub entry_past : entry_format k ≡ Unlisted
-  unfolding entry_format operations
-  entry_past = no_number operations tt
+-- the formats by ranges of opcodes, each up to the number that it is tested against
+abbrev pub ranges : ℕ → Option Format
+ranges k =
+    cond (leb k 0x04) (Some F1)
+    (cond (leb k 0x07) (Some F1u)
+    (cond (leb k 0x0a) (Some F1)
+    (cond (leb k 0x0b) (Some F1u)
+    (cond (leb k 0x0d) (Some F1)
+    (cond (leb k 0x0f) (Some F1u)
+    (cond (leb k 0x11) None
+    (cond (leb k 0x13) (Some F1u)
+    (cond (leb k 0x17) None
+    (cond (leb k 0x1b) (Some F1i)
+    (cond (leb k 0x1f) None
+    (cond (leb k 0x22) (Some F0)
+    (cond (leb k 0x25) (Some F2)
+    (cond (leb k 0x27) (Some F3)
+    (cond (leb k 0x28) (Some F2)
+    (cond (leb k 0x29) (Some F3)
+    (cond (leb k 0x2a) (Some F0)
+    (cond (leb k 0x2b) (Some F4)
+    (cond (leb k 0x2c) (Some F2)
+    (cond (leb k 0x2d) (Some F3)
+    (cond (leb k 0x2f) (Some F1c)
+    (cond (leb k 0x37) (Some F5i)
+    (cond (leb k 0x3f) (Some F5) None))))))))))))))))))))))
+
+ranges_past : (k : ℕ) → 64 ≤ k → None ≡ ranges k
+ranges_past k h = grind (arith, nat_tests)
+
+pub in_ranges : (k : ℕ) → format_of k ≡ ranges k
+unfolding format_of operations
+in_ranges = same_all format_of ranges 64 refl (λ k h. format_past k h ∙ ranges_past k h)
+
+-- the opcodes that are not the lowest of their entry: of CMP, MADI and MAD
+abbrev pub is_higher : ℕ → Bool
+is_higher k = eqb k 0x2f || (leb 0x31 k && leb k 0x37) || (leb 0x39 k && leb k 0x3f)
+
+abbrev pub lowest_format : ℕ → Option Format
+lowest_format k = cond (is_higher k) None (format_of k)
+
+lowest_past : (k : ℕ) → 64 ≤ k → entry_format k ≡ lowest_format k
+lowest_past k h = let p = format_past k h in let q = entry_past k h in grind (arith, nat_tests)
+
+pub at_lowest : (k : ℕ) → entry_format k ≡ lowest_format k
+unfolding entry_format format_of operations
+at_lowest = same_all entry_format lowest_format 64 refl lowest_past
+
+-- what the code's functions give to `grind`: the format by the opcode, and by the entry's number
+pub ruleset by_range = (in_ranges, nat_tests)
+
+pub ruleset by_number = (at_lowest, nat_tests)

@@ -1,73 +1,102 @@
 -- Packing from the last part down: what the loop of `encoding::packed` keeps. Assumes nothing.
-use mathlib.Core.Path.{◌≡◌, refl, sym, ap, ap₂, subst}
-use mathlib.Core.Bool.{Bool, true, false}
+use mathlib.Core.Path.{◌≡◌, refl, sym, ap, ◌∙◌}
+use mathlib.Core.Bool.{false, ◌&&◌}
+use mathlib.Core.Logic.{◌⊎◌, ⊎_elim}
 use mathlib.Core.List.{List, [], ◌∷◌}
-use Prim.Native.Nat.{ℕ, zero, suc, ◌+◌, ◌*◌, ◌^◌, ◌<◌, ◌≤◌}
-use native.Mathlib.Nat.{le_refl, le_of_suc-le-suc, not-suc-le-zero, lt_of_lt_of_le}
+use Prim.Native.Nat.{ℕ, suc, ◌+◌, ◌*◌, ◌%◌, ◌^◌, ◌<◌, ◌≤◌}
 use native.Mathlib.Omega.{arith}
-use lib.Dec.{T, ltb, ltb→lt, lt→ltb}
-use lib.ListN.{length, get_or, drop}
-use lib.Pow.{pow_mono}
-use lib.Seq.{drop-cons, drop-length}
-use mir.Facts.{and_yes, yes_and}
+use lib.Dec.{ltb}
+use lib.ListN.{length}
+use Rattle.std.proofs.Common.{IsTrue, Some, None}
+use Rattle.std.proofs.Common.{length-append}
+use Rattle.std.proofs.Math.Nat.{mul-le-mul_right, le-mul_of_pos_right}
+use lib.Pow.{pow_pos}
+use Rattle.std.proofs.lemmas.Nat.{pow-add}
+use Rattle.std.proofs.lemmas.List.Folds.{list_all-append}
+use Rattle.std.proofs.lemmas.Bool.Decides.{nat_tests}
+use Rattle.std.specs.List.{list_all, push}
+use Rattle.bits.proofs.Laws.{shifted_one}
 use Rattle.bits.specs.Fields.{total, pack, fit}
-use Rattle.bits.proofs.Laws.{pack_lt}
-use Rattle.answer.specs.Answers.{given, refused}
-use Rattle.instruction.specs.Layouts.{narrow}
-use Rattle.instruction.specs.Words.{or_refused}
+use Rattle.instruction.specs.Words.{word_if}
 
-pub narrow_at : (ns : List ℕ) (i : ℕ) → T (narrow ns) → i < length ns → get_or ns i 0 < 32
-narrow_at [] i t h = absurd (not-suc-le-zero h)
-narrow_at (n ∷ ns) zero t h = ltb→lt n 32 (and_yes (ltb n 32) (narrow ns) t).0
-narrow_at (n ∷ ns) (suc i) t h = narrow_at ns i (and_yes (ltb n 32) (narrow ns) t).1 (le_of_suc-le-suc h)
+-- the word that has these parts at the widths, and above them another word
+abbrev over : List ℕ → List ℕ → ℕ → ℕ
+over [] fs word = word
+over (n ∷ ns) [] word = 0
+over (n ∷ ns) (f ∷ fs) word = over ns fs word * 2 ^ n + f
 
-fit_at : (ns fs : List ℕ) (i : ℕ) → T (fit ns fs) → i < length ns → get_or fs i 0 < 2 ^ get_or ns i 0
-fit_at [] fs i t h = absurd (not-suc-le-zero h)
-fit_at (n ∷ ns) [] i t h = absurd t
-fit_at (n ∷ ns) (f ∷ fs) zero t h = ltb→lt f (2 ^ n) (and_yes (ltb f (2 ^ n)) (fit ns fs) t).0
-fit_at (n ∷ ns) (f ∷ fs) (suc i) t h = fit_at ns fs i (and_yes (ltb f (2 ^ n)) (fit ns fs) t).1 (le_of_suc-le-suc h)
+over_none : (ns fs : List ℕ) → over ns fs 0 ≡ pack ns fs
+over_none [] fs = refl
+over_none (n ∷ ns) [] = refl
+over_none (n ∷ ns) (f ∷ fs) = ap (λ (x : ℕ). x * 2 ^ n + f) (over_none ns fs)
 
-total_drop : (ns : List ℕ) (i : ℕ) → total (drop i ns) ≤ total ns
-total_drop [] zero = le_refl 0
-total_drop [] (suc i) = le_refl 0
-total_drop (n ∷ ns) zero = le_refl _
-total_drop (n ∷ ns) (suc i) = omega (arith, total_drop ns i)
+over_push : (ns fs : List ℕ) (n f word : ℕ) → length fs ≡ length ns → over (push ns n) (push fs f) word ≡ over ns fs (word * 2 ^ n + f)
+over_push [] [] n f word e = refl
+over_push [] (g ∷ fs) n f word e = absurd (omega arith)
+over_push (m ∷ ns) [] n f word e = absurd (omega arith)
+over_push (m ∷ ns) (g ∷ fs) n f word e = ap (λ (x : ℕ). x * 2 ^ m + g) (over_push ns fs n f word (omega arith))
 
--- the parts from place i up fit, and are packed in the word
-pub record Packed (ns fs : List ℕ) (i word : ℕ) : Type 0 where
-  pub is : word ≡ pack (drop i ns) (drop i fs)
-  pub fits : T (fit (drop i ns) (drop i fs))
+fit_push : (ns fs : List ℕ) (n f : ℕ) → length fs ≡ length ns → fit (push ns n) (push fs f) ≡ (fit ns fs && ltb f (2 ^ n))
+fit_push [] [] n f e = grind (arith, nat_tests)
+fit_push [] (g ∷ fs) n f e = absurd (omega arith)
+fit_push (m ∷ ns) [] n f e = absurd (omega arith)
+fit_push (m ∷ ns) (g ∷ fs) n f e = let h = fit_push ns fs n f (omega arith) in grind (arith, nat_tests)
 
-module _ (ns fs : List ℕ) (same : length fs ≡ length ns) where
-  pub none_packed : Packed ns fs (length ns) 0
-  none_packed =
-      let d : drop (length ns) fs ≡ [] = rw (← same) (drop-length fs) in
-      record { is = sym (ap₂ pack (drop-length ns) d); fits = rw (drop-length ns, d) tt }
+total_push : (ns : List ℕ) (n : ℕ) → total (push ns n) ≡ total ns + n
+total_push [] n = refl
+total_push (m ∷ ns) n = omega (arith, total_push ns n)
 
-  pub one_more : (i word : ℕ) → i < length ns → Packed ns fs (suc i) word → get_or fs i 0 < 2 ^ get_or ns i 0
-      → Packed ns fs i (word * 2 ^ get_or ns i 0 + get_or fs i 0)
-  one_more i word h p small =
-      let a : drop i ns ≡ get_or ns i 0 ∷ drop (suc i) ns = drop-cons ns i 0 h in
-      let b : drop i fs ≡ get_or fs i 0 ∷ drop (suc i) fs = drop-cons fs i 0 (omega arith) in
-      record {
-        is = rw (a, b, p.is);
-        fits = rw (a, b) (yes_and (ltb (get_or fs i 0) (2 ^ get_or ns i 0)) (fit (drop (suc i) ns) (drop (suc i) fs)) (lt→ltb (get_or fs i 0) (2 ^ get_or ns i 0) small) p.fits);
-      }
+-- of the widths and parts, ns and fs are left; the parts above them fit, and are packed in the word
+pub record Left (widths parts ns fs : List ℕ) (word : ℕ) : Type 0 where
+  pub long : length fs ≡ length ns
+  pub narrow : IsTrue (list_all (λ n. ltb n 32) ns)
+  pub is : pack widths parts ≡ over ns fs word
+  pub fits : fit widths parts ≡ fit ns fs
+  pub room : suc word * 2 ^ total ns ≤ 2 ^ 32
 
-  pub packed_lt : total ns ≡ 32 → (i word : ℕ) → Packed ns fs i word → word < 2 ^ 32
-  packed_lt e i word p =
-      rw p.is (lt_of_lt_of_le (pack_lt (drop i ns) (drop i fs) p.fits) (pow_mono (subst (λ (m : ℕ). total (drop i ns) ≤ m) e (total_drop ns i))))
+pub all_left : {ns fs : List ℕ} → length fs ≡ length ns → total ns ≡ 32 → IsTrue (list_all (λ n. ltb n 32) ns) → Left ns fs ns fs 0
+all_left {ns} {fs} e t narrow = record { long = e; narrow = narrow; is = sym (over_none ns fs); fits = refl; room = rw t (omega arith) }
 
-  pub all_packed : (word : ℕ) → Packed ns fs 0 word → given word ≡ or_refused (fit ns fs) (pack ns fs)
-  all_packed word p = by (fit ns fs) p.fits
-    where
-      by : (b : Bool) → T b → given word ≡ or_refused b (pack ns fs)
-      by true t = ap given p.is
-      by false t = absurd t
+pub word_lt : {widths parts ns fs : List ℕ} {word : ℕ} → Left widths parts ns fs word → word < 2 ^ 32
+word_lt {ns} {word} l = omega (arith, l.room, le-mul_of_pos_right (suc word) (pow_pos (total ns)))
 
-  pub does_not_fit : (i : ℕ) → i < length ns → 2 ^ get_or ns i 0 ≤ get_or fs i 0 → refused 31 0 ≡ or_refused (fit ns fs) (pack ns fs)
-  does_not_fit i h l = by (fit ns fs) (λ t. let s : get_or fs i 0 < 2 ^ get_or ns i 0 = fit_at ns fs i t h in omega arith)
-    where
-      by : (b : Bool) → (T b → ⊥) → refused 31 0 ≡ or_refused b (pack ns fs)
-      by true n = absurd (n tt)
-      by false n = refl
+pub none_left : {widths parts ns fs : List ℕ} {word : ℕ} → Left widths parts ns fs word → (length ns ≡ 0) ⊎ (length fs ≡ 0) → Some word ≡ word_if (fit widths parts) (pack widths parts)
+none_left {ns = []} {fs = []} l e = rw (l.is, l.fits)
+none_left {ns = []} {fs = f ∷ fs} l e = absurd (omega (arith, l.long))
+none_left {ns = n ∷ ns} {fs} l e = absurd (⊎_elim (λ x. omega arith) (λ x. omega (arith, l.long)) e)
+
+-- 1 << n, as the code computes it
+abbrev limit : ℕ → ℕ
+limit n = 1 * 2 ^ n % 2 ^ 32
+
+module _ {widths parts : List ℕ} {word : ℕ} (ns fs : List ℕ) (n f : ℕ) (l : Left widths parts (push ns n) (push fs f) word) where
+  long : length fs ≡ length ns
+  long = omega (arith, l.long, length-append {A = ℕ})
+
+  narrow : IsTrue (list_all (λ n. ltb n 32) ns && ltb n 32)
+  narrow = grind (arith, l.narrow, list_all-append, nat_tests)
+
+  pub narrow_next : n < 32
+  narrow_next = grind (arith, narrow, nat_tests)
+
+  limit_is : limit n ≡ 2 ^ n
+  limit_is = shifted_one n narrow_next
+
+  pub turn : f < limit n → Left widths parts ns fs (word * limit n + f)
+  turn h =
+      let r : suc word * (2 ^ total ns * 2 ^ n) ≤ 2 ^ 32 = rw (total_push ns n, pow-add 2 (total ns) n) at l.room in
+      let g : f < 2 ^ n = rw limit_is at h in
+      rw limit_is
+      (record {
+        long = long;
+        narrow = grind (arith, narrow, nat_tests);
+        is = l.is ∙ over_push ns fs n f word long;
+        fits = l.fits ∙ fit_push ns fs n f long ∙ grind (arith, nat_tests);
+        room = omega (arith, r, mul-le-mul_right {m = suc f} {n = 2 ^ n} (2 ^ total ns) g);
+      })
+
+  pub does_not_fit : limit n ≤ f → None ≡ word_if (fit widths parts) (pack widths parts)
+  does_not_fit h =
+      let g : 2 ^ n ≤ f = rw limit_is at h in
+      let e : fit widths parts ≡ false = l.fits ∙ fit_push ns fs n f long ∙ grind (arith, nat_tests) in
+      rw e

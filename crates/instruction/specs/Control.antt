@@ -5,7 +5,7 @@ use Rattle.answer.specs.Answers.{Answer, given, refused}
 use Rattle.binary.specs.Addresses.{word_address}
 use Rattle.instruction.specs.Words.{decode_of}
 use Rattle.instruction.specs.declared.decoding.Fields.{Fields}
-use Rattle.instruction.specs.declared.decoding.Fields.TheVariants.{Format0, Format1, Format1i, Format1u, Format1c, Format2, Format3, Format4, Format5, Format5i}
+use Rattle.instruction.specs.declared.decoding.Fields.TheVariants.{Format0, Format2, Format3, Format4}
 use Rattle.instruction.specs.declared.flow_control.Condition.TheVariants.{Always, Compared, Uniform}
 use Rattle.instruction.specs.declared.flow_control.Control.{Control}
 use Rattle.instruction.specs.declared.flow_control.Control.TheVariants.{Unknown, Plain, Emit, End, Break, If, Loop, Call, Jump}
@@ -38,15 +38,10 @@ of_format3 op num dst id =
 -- SETEMIT counts as EMIT; words of the other formats go on at the next word
 abbrev pub control_in : Fields → Control
 control_in (Format0 op rest) = of_format0 op
-control_in (Format1 op desc src2 src1 idx1 dst) = Plain
-control_in (Format1i op desc src2 src1 idx2 dst) = Plain
-control_in (Format1u op desc rest src1 idx1 dst) = Plain
-control_in (Format1c op desc src2 src1 idx1 cmpy cmpx) = Plain
 control_in (Format2 op num rest dst condop refy refx) = of_format2 op num dst
 control_in (Format3 op num rest dst id) = of_format3 op num dst id
 control_in (Format4 op rest winding primemit vtxid) = Emit
-control_in (Format5 op desc src3 src2 src1 idx2 dst) = Plain
-control_in (Format5i op desc src3 src2 src1 idx3 dst) = Plain
+control_in _ = Plain
 
 abbrev pub control : Answer Fields → Control
 control (given f) = control_in f
@@ -57,12 +52,6 @@ control_of w = control (decode_of w)
 
 -- IF or LOOP
 abbrev pub is_block : Control → Bool
-is_block Unknown = false
-is_block Plain = false
-is_block Emit = false
-is_block End = false
-is_block (Break c) = false
 is_block (If c dst num) = true
 is_block (Loop r dst) = true
-is_block (Call c dst num) = false
-is_block (Jump c dst num) = false
+is_block _ = false

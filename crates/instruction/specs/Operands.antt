@@ -1,79 +1,56 @@
--- What a word uses: 'A word uses the descriptor of its ID' (document 01, 'Stepping rules'), compare operators, and the parts of an operand descriptor (document 004).
+-- What a word uses: 'A word uses the descriptor of its ID' (document 01, 'Stepping rules'), compare
+-- operators, and the parts of an operand descriptor (document 004).
 -- Assumes nothing.
-use Rattle.std.specs.Prelude.{ℕ, ◌+◌, Bool, true, false, ◌&&◌, List, [], ◌∷◌, ◌++◌}
+use Rattle.std.specs.Prelude.{ℕ, ◌+◌, Bool, true, false, ◌&&◌, List, [], ◌∷◌, ◌++◌, Option, Some, None, is_none}
 use Rattle.bits.specs.Fields.{field}
 use Rattle.answer.specs.Answers.{Answer, given, refused}
 use Rattle.instruction.specs.Control.{control_of}
 use Rattle.instruction.specs.Words.{decode_of}
 use Rattle.instruction.specs.declared.decoding.Fields.{Fields}
-use Rattle.instruction.specs.declared.decoding.Fields.TheVariants.{Format0, Format1, Format1i, Format1u, Format1c, Format2, Format3, Format4, Format5, Format5i}
+use Rattle.instruction.specs.declared.decoding.Fields.TheVariants.{Format1, Format1i, Format1u, Format1c, Format5, Format5i}
 use Rattle.instruction.specs.declared.flow_control.Control.{Control}
-use Rattle.instruction.specs.declared.flow_control.Control.TheVariants.{Unknown, Plain, Emit, End, Break, If, Loop, Call, Jump}
+use Rattle.instruction.specs.declared.flow_control.Control.TheVariants.{Unknown, Loop}
 use Rattle.instruction.specs.declared.operand.CompareOperators.{CompareOperators}
-use Rattle.instruction.specs.declared.operand.CompareOperators.TheVariants.{Compares, None}
-use Rattle.instruction.specs.declared.operand.DescriptorId.{DescriptorId}
-use Rattle.instruction.specs.declared.operand.DescriptorId.TheVariants.{Id, Unused}
 use Rattle.instruction.specs.declared.operand.Source.{Source}
 
 -- every format with a DESC
-abbrev pub descriptor_in : Fields → DescriptorId
-descriptor_in (Format0 op rest) = Unused
-descriptor_in (Format1 op desc src2 src1 idx1 dst) = Id desc
-descriptor_in (Format1i op desc src2 src1 idx2 dst) = Id desc
-descriptor_in (Format1u op desc rest src1 idx1 dst) = Id desc
-descriptor_in (Format1c op desc src2 src1 idx1 cmpy cmpx) = Id desc
-descriptor_in (Format2 op num rest dst condop refy refx) = Unused
-descriptor_in (Format3 op num rest dst id) = Unused
-descriptor_in (Format4 op rest winding primemit vtxid) = Unused
-descriptor_in (Format5 op desc src3 src2 src1 idx2 dst) = Id desc
-descriptor_in (Format5i op desc src3 src2 src1 idx3 dst) = Id desc
+abbrev pub descriptor_in : Fields → Option ℕ
+descriptor_in (Format1 op desc src2 src1 idx1 dst) = Some desc
+descriptor_in (Format1i op desc src2 src1 idx2 dst) = Some desc
+descriptor_in (Format1u op desc rest src1 idx1 dst) = Some desc
+descriptor_in (Format1c op desc src2 src1 idx1 cmpy cmpx) = Some desc
+descriptor_in (Format5 op desc src3 src2 src1 idx2 dst) = Some desc
+descriptor_in (Format5i op desc src3 src2 src1 idx3 dst) = Some desc
+descriptor_in _ = None
 
-abbrev pub descriptor : Answer Fields → DescriptorId
+abbrev pub descriptor : Answer Fields → Option ℕ
 descriptor (given f) = descriptor_in f
-descriptor (refused n p) = Unused
+descriptor (refused n p) = None
 
-unfoldable pub descriptor_of : ℕ → DescriptorId
+unfoldable pub descriptor_of : ℕ → Option ℕ
 descriptor_of w = descriptor (decode_of w)
 
 -- a CMP's operators, X first
-abbrev pub operators_in : Fields → CompareOperators
-operators_in (Format0 op rest) = None
-operators_in (Format1 op desc src2 src1 idx1 dst) = None
-operators_in (Format1i op desc src2 src1 idx2 dst) = None
-operators_in (Format1u op desc rest src1 idx1 dst) = None
-operators_in (Format1c op desc src2 src1 idx1 cmpy cmpx) = Compares cmpx cmpy
-operators_in (Format2 op num rest dst condop refy refx) = None
-operators_in (Format3 op num rest dst id) = None
-operators_in (Format4 op rest winding primemit vtxid) = None
-operators_in (Format5 op desc src3 src2 src1 idx2 dst) = None
-operators_in (Format5i op desc src3 src2 src1 idx3 dst) = None
+abbrev pub operators_in : Fields → Option CompareOperators
+operators_in (Format1c op desc src2 src1 idx1 cmpy cmpx) = Some (record { x = cmpx; y = cmpy })
+operators_in _ = None
 
-abbrev pub operators : Answer Fields → CompareOperators
+abbrev pub operators : Answer Fields → Option CompareOperators
 operators (given f) = operators_in f
 operators (refused n p) = None
 
-unfoldable pub operators_of : ℕ → CompareOperators
+unfoldable pub operators_of : ℕ → Option CompareOperators
 operators_of w = operators (decode_of w)
 
 -- a known word, and no LOOP, which has an integer register
 abbrev pub is_free : Control → Bool
 is_free Unknown = false
-is_free Plain = true
-is_free Emit = true
-is_free End = true
-is_free (Break c) = true
-is_free (If c dst num) = true
 is_free (Loop r dst) = false
-is_free (Call c dst num) = true
-is_free (Jump c dst num) = true
-
-abbrev pub is_unused : DescriptorId → Bool
-is_unused (Id n) = false
-is_unused Unused = true
+is_free _ = true
 
 -- nothing that 9 to 12 ask for: such a word passes them whatever its fields hold
 unfoldable pub takes_any_fields : ℕ → Bool
-takes_any_fields w = is_free (control_of w) && is_unused (descriptor_of w)
+takes_any_fields w = is_free (control_of w) && is_none (descriptor_of w)
 
 -- a source's parts, from its negation bit on: the selectors of component 3, 2, 1, 0
 abbrev pub source_at : ℕ → ℕ → Source

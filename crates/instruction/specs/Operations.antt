@@ -1,13 +1,12 @@
 -- The list of operations (document 01, 'Words').
 -- Assumes nothing.
-use Rattle.std.specs.Prelude.{ℕ, Bool, true, false, ◌&&◌, List, [], ◌∷◌, leb, eqb}
+use Rattle.std.specs.Prelude.{ℕ, Bool, true, false, ◌&&◌, List, [], ◌∷◌, leb, eqb, Option, Some, None}
 use Prim.Native.String.{String}
 use Rattle.instruction.specs.declared.operation.Format.{Format}
-use Rattle.instruction.specs.declared.operation.Format.TheVariants.{Unlisted, F0, F1, F1i, F1u, F1c, F2, F3, F4, F5, F5i}
+use Rattle.instruction.specs.declared.operation.Format.TheVariants.{F0, F1, F1i, F1u, F1c, F2, F3, F4, F5, F5i}
 
 -- formats are told apart by a number
 abbrev pub tag : Format → ℕ
-tag Unlisted = 0
 tag F0 = 1
 tag F1 = 2
 tag F1i = 3
@@ -18,6 +17,11 @@ tag F3 = 7
 tag F4 = 8
 tag F5 = 9
 tag F5i = 10
+
+-- whether there is a format, and it is this one
+abbrev pub is_format : Option Format → Format → Bool
+is_format (Some g) f = eqb (tag g) (tag f)
+is_format None f = false
 
 -- an entry: its lowest and its highest opcode, its name, its format
 pub record Operation : Type 0 where
@@ -72,19 +76,19 @@ operations =
     operation 0x38 0x3f "MAD" F5 ∷
     []
 
--- the first of the entries for which a test holds gives its format; the rest are unknown
-abbrev pub pick : Bool → Format → Format → Format
-pick true f rest = f
+-- the first of the entries for which a test holds gives its format, if there is one
+abbrev pub pick : Bool → Format → Option Format → Option Format
+pick true f rest = Some f
 pick false f rest = rest
 
-abbrev pub format_where : (Operation → Bool) → List Operation → Format
-format_where test [] = Unlisted
+abbrev pub format_where : (Operation → Bool) → List Operation → Option Format
+format_where test [] = None
 format_where test (o ∷ os) = pick (test o) o.format (format_where test os)
 
--- the format of an opcode
-unfoldable pub format_of : ℕ → Format
+-- the format of an opcode; 'the rest are unknown'
+unfoldable pub format_of : ℕ → Option Format
 format_of opcode = format_where (λ o. leb o.lowest opcode && leb opcode o.highest) operations
 
 -- the format of the entry that is numbered op, 'the lowest opcode of its entry'
-unfoldable pub entry_format : ℕ → Format
+unfoldable pub entry_format : ℕ → Option Format
 entry_format op = format_where (λ o. eqb op o.lowest) operations

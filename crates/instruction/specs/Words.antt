@@ -1,19 +1,16 @@
 -- Instruction words and their fields (document 01, 'Words'; the bit positions are those of document 004).
 -- Assumes nothing.
-use Rattle.std.specs.Prelude.{ℕ, Bool, true, false, ◌&&◌, List, [], ◌∷◌, eqb}
+use Rattle.std.specs.Prelude.{ℕ, Bool, true, false, ◌&&◌, List, [], ◌∷◌, Option, Some, None}
 use Rattle.bits.specs.Fields.{field, fit, pack}
 use Rattle.answer.specs.Answers.{Answer, given, refused}
-use Rattle.instruction.specs.Operations.{tag, format_of, entry_format}
+use Rattle.instruction.specs.Operations.{is_format, format_of, entry_format}
 use Rattle.instruction.specs.declared.operation.Format.{Format}
-use Rattle.instruction.specs.declared.operation.Format.TheVariants.{Unlisted, F0, F1, F1i, F1u, F1c, F2, F3, F4, F5, F5i}
+use Rattle.instruction.specs.declared.operation.Format.TheVariants.{F0, F1, F1i, F1u, F1c, F2, F3, F4, F5, F5i}
 use Rattle.instruction.specs.declared.decoding.Fields.{Fields}
 use Rattle.instruction.specs.declared.decoding.Fields.TheVariants.{Format0, Format1, Format1i, Format1u, Format1c, Format2, Format3, Format4, Format5, Format5i}
-use Rattle.instruction.specs.declared.encoding.Encoded.{Encoded}
-use Rattle.instruction.specs.declared.encoding.Encoded.TheVariants.{Word, Refused}
-use Rattle.instruction.specs.declared.decoding.Decoded.{Decoded}
-use Rattle.instruction.specs.declared.decoding.Decoded.TheVariants.{Known, Unknown}
 
--- The formats: the operation's number, then the fields from bit 0 up, each by position and width. Bits without a name are the field `rest`.
+-- The formats: the operation's number, then the fields from bit 0 up, each by position and width. Bits
+-- without a name are the field `rest`.
 -- op rest
 abbrev pub format0 : ℕ → Fields
 format0 w = Format0 (field 26 6 w) (field 0 26 w)
@@ -54,31 +51,29 @@ format5 w = Format5 0x38 (field 0 5 w) (field 5 5 w) (field 10 7 w) (field 17 5 
 abbrev pub format5i : ℕ → Fields
 format5i w = Format5i 0x30 (field 0 5 w) (field 5 7 w) (field 12 5 w) (field 17 5 w) (field 22 2 w) (field 24 5 w)
 
+abbrev pub fields_as : Format → ℕ → Fields
+fields_as F0 w = format0 w
+fields_as F1 w = format1 w
+fields_as F1i w = format1i w
+fields_as F1u w = format1u w
+fields_as F1c w = format1c w
+fields_as F2 w = format2 w
+fields_as F3 w = format3 w
+fields_as F4 w = format4 w
+fields_as F5 w = format5 w
+fields_as F5i w = format5i w
+
 -- 'Decoding one word alone gives only 9, at 0'
-abbrev pub decode_as : Format → ℕ → Answer Fields
-decode_as Unlisted w = refused 9 0
-decode_as F0 w = given (format0 w)
-decode_as F1 w = given (format1 w)
-decode_as F1i w = given (format1i w)
-decode_as F1u w = given (format1u w)
-decode_as F1c w = given (format1c w)
-decode_as F2 w = given (format2 w)
-decode_as F3 w = given (format3 w)
-decode_as F4 w = given (format4 w)
-decode_as F5 w = given (format5 w)
-decode_as F5i w = given (format5i w)
+abbrev pub decode_as : Option Format → ℕ → Answer Fields
+decode_as (Some f) w = given (fields_as f w)
+decode_as None w = refused 9 0
 
 unfoldable pub decode_of : ℕ → Answer Fields
 decode_of w = decode_as (format_of (field 26 6 w)) w
 
--- the code's answer
-abbrev pub decoded : Decoded → Answer Fields
-decoded (Known f) = given f
-decoded Unknown = refused 9 0
-
--- Encoding. The layout of a format: the widths from bit 0 up, the opcode's last. CMP's opcode has 5 bits, MADI's and MAD's 3
+-- Encoding. The layout of a format: the widths from bit 0 up, the opcode's last. CMP's opcode has 5 bits,
+-- MADI's and MAD's 3
 abbrev pub layout : Format → List ℕ
-layout Unlisted = []
 layout F0 = 26 ∷ 6 ∷ []
 layout F1 = 7 ∷ 5 ∷ 7 ∷ 2 ∷ 5 ∷ 6 ∷ []
 layout F1i = 7 ∷ 7 ∷ 5 ∷ 2 ∷ 5 ∷ 6 ∷ []
@@ -90,7 +85,8 @@ layout F4 = 22 ∷ 1 ∷ 1 ∷ 2 ∷ 6 ∷ []
 layout F5 = 5 ∷ 5 ∷ 7 ∷ 5 ∷ 2 ∷ 5 ∷ 3 ∷ []
 layout F5i = 5 ∷ 7 ∷ 5 ∷ 5 ∷ 2 ∷ 5 ∷ 3 ∷ []
 
--- the format of the fields, the operation's number, and the fields from bit 0 up with the opcode's bits last: 'the opcode bits are 17h, 6 and 7 for these three'
+-- the format of the fields, the operation's number, and the fields from bit 0 up with the opcode's bits last:
+-- 'the opcode bits are 17h, 6 and 7 for these three'
 abbrev pub format_for : Fields → Format
 format_for (Format0 op rest) = F0
 format_for (Format1 op desc src2 src1 idx1 dst) = F1
@@ -127,18 +123,22 @@ parts_of (Format4 op rest winding primemit vtxid) = rest ∷ winding ∷ primemi
 parts_of (Format5 op desc src3 src2 src1 idx2 dst) = desc ∷ src3 ∷ src2 ∷ src1 ∷ idx2 ∷ dst ∷ 7 ∷ []
 parts_of (Format5i op desc src3 src2 src1 idx3 dst) = desc ∷ src3 ∷ src2 ∷ src1 ∷ idx3 ∷ dst ∷ 6 ∷ []
 
--- 31: 'a field to encode exceeds its bits, or the operation's number is not the lowest of an entry of its format'
-abbrev pub or_refused : Bool → ℕ → Answer ℕ
-or_refused true w = given w
-or_refused false w = refused 31 0
+-- the word that has the fields, if one has
+abbrev pub word_if : Bool → ℕ → Option ℕ
+word_if true w = Some w
+word_if false w = None
 
-abbrev pub code_of : ℕ → Format → List ℕ → Answer ℕ
-code_of op format parts = or_refused (eqb (tag (entry_format op)) (tag format) && fit (layout format) parts) (pack (layout format) parts)
+abbrev pub code_of : ℕ → Format → List ℕ → Option ℕ
+code_of op format parts = word_if (is_format (entry_format op) format && fit (layout format) parts) (pack (layout format) parts)
+
+abbrev pub word_of : Fields → Option ℕ
+word_of f = code_of (number_of f) (format_for f) (parts_of f)
+
+-- 31: 'a field to encode exceeds its bits,
+-- or the operation's number is not the lowest of an entry of its format'
+abbrev pub or_refused : Option ℕ → Answer ℕ
+or_refused (Some w) = given w
+or_refused None = refused 31 0
 
 unfoldable pub encode_of : Fields → Answer ℕ
-encode_of f = code_of (number_of f) (format_for f) (parts_of f)
-
--- the code's answer
-abbrev pub encoded : Encoded → Answer ℕ
-encoded (Word w) = given w
-encoded Refused = refused 31 0
+encode_of f = or_refused (word_of f)

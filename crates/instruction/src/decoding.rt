@@ -1,13 +1,16 @@
 // Words into fields.
 ghost use Rattle.std.specs.Prelude.{◌≡◌};
-ghost use Rattle.instruction.specs.Words.{format0, format1, format1i, format1u, format1c, format2, format3, format4, format5, format5i, decoded, decode_of};
+ghost use Rattle.answer.specs.Answers.{answered};
+ghost use Rattle.instruction.specs.Words.{format0, format1, format1i, format1u, format1c, format2, format3, format4, format5, format5i, fields_as, decode_of};
 
 use crate::operation::{Format, format_of};
+use answer::{Reason, Refusal};
 use bits::field;
 
-// The fields of a word, a variant for each format. First the operation's number, which is the lowest opcode of its entry; then
-// the fields from bit 0 up, under document 004's names; `rest` are the bits that the format does not name.
-#[derive(Clone, Copy)]
+// The fields of a word, a variant for each format. First the operation's number, which is the lowest opcode
+// of its entry; then the fields from bit 0 up, under document 004's names; `rest` are the bits that the
+// format does not name.
+#[derive(Clone, Copy, Debug, PartialEq, Eq)]
 pub enum Fields {
     // op, rest
     Format0(u32, u32),
@@ -33,12 +36,6 @@ pub enum Fields {
 
 // MAD and MADI have fewer bits for the descriptor ID, and so reach the first 32 descriptors only.
 pub(crate) const MAD_DESC_BITS: u32 = 5;
-
-#[derive(Clone, Copy)]
-pub enum Decoded {
-    Known(Fields),
-    Unknown,
-}
 
 fn format_0(word: u32) -> Fields
     ensures { result ≡ format0 word }
@@ -158,21 +155,31 @@ fn format_5i(word: u32) -> Fields
     Fields::Format5i(op, desc, src3, src2, src1, idx3, dst)
 }
 
-// The fields of a word; unknown if no operation has its opcode.
-pub fn decode(word: u32) -> Decoded
-    ensures { decoded result ≡ decode_of word }
+// The fields of a word of the format.
+fn fields_as(format: Format, word: u32) -> Fields
+    ensures { result ≡ fields_as format word }
+{
+    match format {
+        Format::F0 => format_0(word),
+        Format::F1 => format_1(word),
+        Format::F1i => format_1i(word),
+        Format::F1u => format_1u(word),
+        Format::F1c => format_1c(word),
+        Format::F2 => format_2(word),
+        Format::F3 => format_3(word),
+        Format::F4 => format_4(word),
+        Format::F5 => format_5(word),
+        Format::F5i => format_5i(word),
+    }
+}
+
+// The fields of a word; refused if no operation has its opcode.
+#[tactic(auto, unfolding(crate::specs::Words::decode_of))]
+pub fn decode(word: u32) -> Result<Fields, Refusal>
+    ensures { answered result ≡ decode_of word }
 {
     match format_of(field(word, 26, 6)) {
-        Format::Unlisted => Decoded::Unknown,
-        Format::F0 => Decoded::Known(format_0(word)),
-        Format::F1 => Decoded::Known(format_1(word)),
-        Format::F1i => Decoded::Known(format_1i(word)),
-        Format::F1u => Decoded::Known(format_1u(word)),
-        Format::F1c => Decoded::Known(format_1c(word)),
-        Format::F2 => Decoded::Known(format_2(word)),
-        Format::F3 => Decoded::Known(format_3(word)),
-        Format::F4 => Decoded::Known(format_4(word)),
-        Format::F5 => Decoded::Known(format_5(word)),
-        Format::F5i => Decoded::Known(format_5i(word)),
+        Some(format) => Ok(fields_as(format, word)),
+        None => Err(Reason::UnknownOpcode.at(0)),
     }
 }

@@ -1,48 +1,42 @@
 // Fields into words.
-ghost use Rattle.std.specs.Prelude.{◌≡◌, T, eqb, length};
+ghost use Rattle.std.specs.Prelude.{◌≡◌, IsTrue, length, nat_lt};
+ghost use Rattle.std.specs.List.{list_all};
+ghost use Rattle.answer.specs.Answers.{answered};
 ghost use Rattle.bits.specs.Fields.{total, pack, fit};
-ghost use Rattle.instruction.specs.Layouts.{narrow};
-ghost use Rattle.instruction.specs.Operations.{tag};
-ghost use Rattle.instruction.specs.Words.{layout, or_refused, code_of, encoded, encode_of};
+ghost use Rattle.instruction.specs.Words.{layout, word_if, code_of, word_of, encode_of};
 
 use crate::decoding::Fields;
-use crate::operation::{Format, entry_format, tag};
+use crate::operation::{Format, entry_format};
+use answer::{Reason, Refusal};
 
-#[derive(Clone, Copy)]
-pub enum Encoded {
-    Word(u32),
-    Refused,
-}
-
-// The word that has the parts at the widths, from bit 0 up; refused if a part exceeds its bits.
-fn packed(widths: &[u32], parts: &[u32]) -> Encoded
-    requires { (length parts.now ≡ length widths.now) × (total widths.now ≡ 32) × T (narrow widths.now) }
-    ensures { encoded result ≡ or_refused (fit widths.now parts.now) (pack widths.now parts.now) }
+// The word that has the parts at the widths, from bit 0 up; none if a part exceeds its bits.
+fn packed(widths: &[u32], parts: &[u32]) -> Option<u32>
+    requires as_long { length parts.now ≡ length widths.now }
+    requires whole { total widths.now ≡ 32 }
+    requires narrow { IsTrue (list_all (λ n. nat_lt n 32) widths.now) }
+    ensures { result ≡ word_if (fit widths.now parts.now) (pack widths.now parts.now) }
 {
     let mut word = 0;
-    let mut i = widths.len();
-    while 0 < i {
-        i -= 1;
-        let part = parts[i];
-        let limit = 1 << widths[i];
-        if limit <= part {
-            return Encoded::Refused;
+    for (width, part) in widths.iter().rev().zip(parts.iter().rev()) {
+        let limit = 1 << *width;
+        if limit <= *part {
+            return None;
         }
-        word = word * limit + part;
+        word = word * limit + *part;
     }
-    Encoded::Word(word)
+    Some(word)
 }
 
 // The word of a format that has the parts, if `op` is the lowest opcode of an entry of the format.
-fn coded(op: u32, format: Format, parts: &[u32]) -> Encoded
-    requires { (length parts.now ≡ length (layout format)) × (total (layout format) ≡ 32) }
-    ensures { encoded result ≡ code_of op format parts.now }
+fn coded(op: u32, format: Format, parts: &[u32]) -> Option<u32>
+    requires as_long { length parts.now ≡ length (layout format) }
+    requires whole { total (layout format) ≡ 32 }
+    ensures { result ≡ code_of op format parts.now }
 {
-    if tag(entry_format(op)) != tag(format) {
-        return Encoded::Refused;
+    if entry_format(op) != Some(format) {
+        return None;
     }
     match format {
-        Format::Unlisted => Encoded::Refused,
         Format::F0 => packed(&[26, 6], parts),
         Format::F1 => packed(&[7, 5, 7, 2, 5, 6], parts),
         Format::F1i => packed(&[7, 7, 5, 2, 5, 6], parts),
@@ -56,9 +50,10 @@ fn coded(op: u32, format: Format, parts: &[u32]) -> Encoded
     }
 }
 
-// The word that has these fields. No word has them if one exceeds its bits or the operation's number is not the lowest opcode of an entry of the format.
-pub fn encode(fields: Fields) -> Encoded
-    ensures { encoded result ≡ encode_of fields }
+// The word that has these fields. No word has them if one exceeds its bits or the operation's number is not
+// the lowest opcode of an entry of the format.
+fn word_of(fields: Fields) -> Option<u32>
+    ensures { result ≡ word_of fields }
 {
     match fields {
         Fields::Format0(op, rest) => coded(op, Format::F0, &[rest, op]),
@@ -90,4 +85,11 @@ pub fn encode(fields: Fields) -> Encoded
             coded(op, Format::F5i, &[desc, src3, src2, src1, idx3, dst, 6])
         }
     }
+}
+
+#[tactic(auto, unfolding(crate::specs::Words::encode_of))]
+pub fn encode(fields: Fields) -> Result<u32, Refusal>
+    ensures { answered result ≡ encode_of fields }
+{
+    word_of(fields).ok_or(Reason::NotEncodable.at(0))
 }

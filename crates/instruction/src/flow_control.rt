@@ -1,4 +1,6 @@
 // What a word does to control flow.
+#![tactic(auto, using(crate::proofs::Formats::by_range), unfolding(crate::specs::Control::control_of, crate::specs::Words::decode_of))]
+
 ghost use Rattle.std.specs.Prelude.{◌≡◌, ◌<◌, ◌≤◌};
 ghost use Rattle.bits.specs.Fields.{field};
 ghost use Rattle.instruction.specs.Control.{control_of, is_block};
@@ -6,8 +8,9 @@ ghost use Rattle.instruction.specs.Control.{control_of, is_block};
 use binary::WordAddress;
 use bits::field;
 
-// When a word of control flow is taken: always; by the outcome of comparisons, which comes from outside; by a bool register.
-#[derive(Clone, Copy)]
+// When a word of control flow is taken: always; by the outcome of comparisons, which comes from outside; by a
+// bool register.
+#[derive(Clone, Copy, Debug, PartialEq, Eq)]
 pub enum Condition {
     Always,
     Compared,
@@ -52,8 +55,7 @@ fn flow_control_of(op: u32, word: u32) -> Control
         0x27 => Control::If(Condition::Uniform(id), WordAddress(dst), num),
         0x28 => Control::If(Condition::Compared, WordAddress(dst), num),
         0x29 => Control::Loop(id, WordAddress(dst)),
-        0x2a => Control::Emit,
-        0x2b => Control::Emit,
+        0x2a | 0x2b => Control::Emit,
         0x2c => Control::Jump(Condition::Compared, WordAddress(dst), num),
         0x2d => Control::Jump(Condition::Uniform(id), WordAddress(dst), num),
         _ => Control::Plain,
@@ -78,9 +80,9 @@ pub fn control_of(word: u32) -> Control
 }
 
 // Whether a word is an IF or a LOOP, told by its opcode alone: a search over own words asks it of each.
+#[tactic(auto, using(crate::proofs::ByOpcode::block_of))]
 pub fn is_block(word: u32) -> bool
     ensures { result ≡ is_block (control_of word) }
 {
-    let op = field(word, 26, 6);
-    (0x27 <= op) & (op <= 0x29)
+    matches!(field(word, 26, 6), 0x27..=0x29)
 }

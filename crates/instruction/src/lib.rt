@@ -1,4 +1,4 @@
-// Instruction words: decoding, encoding, what a word does to control flow, and the parts of an operand descriptor.
+// Instruction words: decoding, encoding, what a word does to control flow. Parts of an operand descriptor.
 
 #![tactic(auto)]
 
@@ -8,10 +8,9 @@ mod flow_control;
 mod operand;
 mod operation;
 
-pub use decoding::{Decoded, Fields, decode};
-pub use encoding::{Encoded, encode};
+pub use decoding::{Fields, decode};
+pub use encoding::encode;
 pub use flow_control::{Condition, Control, control_of, is_block};
 pub use operand::{
-    CompareOperators, Descriptor, DescriptorId, Source, compare_operators_of, descriptor_of,
-    takes_any_fields,
+    CompareOperators, Descriptor, Source, compare_operators_of, descriptor_of, takes_any_fields,
 };

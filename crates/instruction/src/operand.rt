@@ -1,61 +1,61 @@
-// What a word uses beside its registers: an operand descriptor, compare operators. The parts of an operand descriptor.
+// What a word uses beside its registers: an operand descriptor, compare operators. The parts of a descriptor.
+#![tactic(auto, using(crate::proofs::Formats::by_range), unfolding(crate::specs::Operands::descriptor_of, crate::specs::Operands::operators_of, crate::specs::Words::decode_of))]
+
 ghost use Rattle.std.specs.Prelude.{◌≡◌, ◌<◌};
 ghost use Rattle.instruction.specs.Operands.{descriptor_of, operators_of, takes_any_fields, source_at, mask_of, source1_of, source2_of, source3_of};
 
 use crate::decoding::MAD_DESC_BITS;
 use bits::field;
 
-// The ID of the operand descriptor that a word uses. An unknown word uses none.
-#[derive(Clone, Copy)]
-pub enum DescriptorId {
-    Id(u32),
-    Unused,
-}
-
-// Goes by ranges of opcodes, as `control_of` does. DESC starts at bit 0, and that of MAD and MADI is shorter.
-pub fn descriptor_of(word: u32) -> DescriptorId
+// The ID of the operand descriptor that a word uses, if it uses one. Goes by ranges of opcodes, as
+// `control_of` does. DESC starts at bit 0, and that of MAD and MADI is shorter.
+pub fn descriptor_of(word: u32) -> Option<u32>
     ensures { result ≡ descriptor_of word }
 {
     match field(word, 26, 6) {
-        0x00..=0x0f => DescriptorId::Id(field(word, 0, 7)),
-        0x10..=0x11 => DescriptorId::Unused,
-        0x12..=0x13 => DescriptorId::Id(field(word, 0, 7)),
-        0x14..=0x17 => DescriptorId::Unused,
-        0x18..=0x1b => DescriptorId::Id(field(word, 0, 7)),
-        0x1c..=0x2d => DescriptorId::Unused,
-        0x2e..=0x2f => DescriptorId::Id(field(word, 0, 7)),
-        _ => DescriptorId::Id(field(word, 0, MAD_DESC_BITS)),
+        0x00..=0x0f => Some(field(word, 0, 7)),
+        0x10..=0x11 => None,
+        0x12..=0x13 => Some(field(word, 0, 7)),
+        0x14..=0x17 => None,
+        0x18..=0x1b => Some(field(word, 0, 7)),
+        0x1c..=0x2d => None,
+        0x2e..=0x2f => Some(field(word, 0, 7)),
+        _ => Some(field(word, 0, MAD_DESC_BITS)),
     }
 }
 
-// The compare operators of a CMP, 0 to 7 as the word has them.
-#[derive(Clone, Copy)]
-pub enum CompareOperators {
-    // That of the components x, that of the components y.
-    Compares(u32, u32),
-    None,
+// The compare operators of a CMP, of the components x and of the components y: 0 to 7 as the word has them.
+#[derive(Clone, Copy, Debug, PartialEq, Eq)]
+pub struct CompareOperators {
+    pub x: u32,
+    pub y: u32,
 }
 
 // Only CMP, 2Eh and 2Fh, has operators.
-pub fn compare_operators_of(word: u32) -> CompareOperators
+pub fn compare_operators_of(word: u32) -> Option<CompareOperators>
     ensures { result ≡ operators_of word }
 {
     match field(word, 26, 6) {
-        0x2e..=0x2f => CompareOperators::Compares(field(word, 24, 3), field(word, 21, 3)),
-        _ => CompareOperators::None,
+        0x2e..=0x2f => Some(CompareOperators {
+            x: field(word, 24, 3),
+            y: field(word, 21, 3),
+        }),
+        _ => None,
     }
 }
 
-// Whether none of 9 to 12 can refuse the word, whatever its fields hold: the opcodes 20h to 2Dh (control flow, output, NOP) but LOOP, whose register has a limit.
+// Whether none of 9 to 12 can refuse the word, whatever its fields hold: the opcodes 20h to 2Dh (control
+// flow, output, NOP) but LOOP, whose register has a limit.
+#[tactic(auto, using(crate::proofs::ByOpcode::any_fields_of))]
 pub fn takes_any_fields(word: u32) -> bool
     ensures { result ≡ takes_any_fields word }
 {
     let op = field(word, 26, 6);
-    (0x20 <= op) & (op <= 0x2d) & (op != 0x29)
+    matches!(op, 0x20..=0x2d) && op != 0x29
 }
 
 // How a source is read: 1 if negated, and for each component which of x, y, z, w (0 to 3) it takes.
-#[derive(Clone, Copy)]
+#[derive(Clone, Copy, Debug, PartialEq, Eq)]
 pub struct Source {
     pub negated: u32,
     pub component0: u32,
@@ -79,7 +79,7 @@ fn source_at(descriptor: u32, pos: u32) -> Source
 }
 
 // An operand descriptor: the first four bytes of its entry.
-#[derive(Clone, Copy)]
+#[derive(Clone, Copy, Debug, PartialEq, Eq)]
 pub struct Descriptor(pub u32);
 
 impl Descriptor {

@@ -1,12 +1,12 @@
 -- Laws of records written one after another. Assumes nothing.
-use mathlib.Core.Path.{◌≡◌, refl, sym, ap, ◌∙◌}
+use mathlib.Core.Path.{◌≡◌, refl, sym, ap}
 use mathlib.Core.Bool.{cond}
 use mathlib.Core.List.{List, append_assoc}
 use Prim.Native.Nat.{ℕ, zero, suc, ◌+◌, ◌*◌, ◌-◌, ◌≤◌, ◌<◌}
 use native.Mathlib.Numerals.{add-one}
 use native.Mathlib.Omega.{arith}
-use lib.ListN.{length, get_or, set, take, drop, length-append, length-drop}
-use lib.Seq.{sets, sets-eq, drop-drop, take-suc, take-suc-set, length-take-le}
+use lib.ListN.{length, take, drop, length-append}
+use lib.Seq.{sets, sets-eq, drop-drop}
 use borrow.Author.Tests.{lt-ltb, le-ltb}
 use borrow.Rule.Slice.PartMut.{put_mid}
 use Rattle.answer.specs.Answers.{given, refused}
@@ -20,21 +20,11 @@ too_short size n h = ap (λ b. cond b (refused 30 0) (given (n * 80))) (lt-ltb s
 pub enough : (size n : ℕ) → n * 80 ≤ size → room size n ≡ given (n * 80)
 enough size n h = ap (λ b. cond b (refused 30 0) (given (n * 80))) (le-ltb size (n * 80) h)
 
--- one more byte of a line
-pub byte_next : (line part : List ℕ) (i : ℕ) → i < length part → i < length line → take i part ≡ take i line → take (i + 1) (set part i (get_or line i 0)) ≡ take (i + 1) line
-byte_next line part i h k e = rw (add-one i, take-suc-set part i (get_or line i 0) h, take-suc line i 0 k, e)
-
 -- a part that was lent comes back as stores
 put_mid_lem : (a k : ℕ) (xs ys : List ℕ) → length ys ≡ k → a + k ≤ length xs → put_mid a k xs ys ≡ sets xs a ys
 put_mid_lem a k xs ys e h =
     let h' : a + length ys ≤ length xs = rw e h in
     rw (sets-eq ys xs a h', e) (rw (drop-drop k a xs) (sym (append_assoc (take a xs) ys (drop (a + k) xs))))
-
--- the part of a buffer for record i
-pub part_wide : (i : ℕ) (out : List ℕ) → i * 80 + 80 ≤ length out → length (take (i * 80 + 80 - i * 80) (drop (i * 80) out)) ≡ 80
-part_wide i out h =
-    let t : i * 80 + 80 - i * 80 ≡ 80 = omega arith in
-    rw t (length-take-le 80 (drop (i * 80) out) (omega (arith, length-drop (i * 80) out)))
 
 -- records of 80 bytes each
 module _ (f : ℕ → List ℕ) (wide : (i : ℕ) → length (f i) ≡ 80) where
@@ -43,11 +33,23 @@ module _ (f : ℕ → List ℕ) (wide : (i : ℕ) → length (f i) ≡ 80) where
   records_length zero = refl
   records_length (suc n) = omega (arith, length-append (records_of f n) (f n), records_length n, wide n)
 
-  -- one more record
-  pub record_next : (i : ℕ) (l : List ℕ) {out line : List ℕ} → out ≡ sets l 0 (records_of f i) → line ≡ f i → i * 80 + 80 ≤ length out
-      → put_mid (i * 80) (i * 80 + 80 - i * 80) out line ≡ sets l 0 (records_of f (i + 1))
+-- a buffer in which the first n records are written, and no byte beyond
+pub record Written (f : ℕ → List ℕ) (n : ℕ) (old out : List ℕ) : Type 0 where
+  pub bytes : out ≡ sets old 0 (records_of f n)
+  pub wide : length (records_of f n) ≡ n * 80
+
+module _ (f : ℕ → List ℕ) (old : List ℕ) where
+  pub written_none : Written f 0 old old
   unfolding records_of
-  record_next i l {out} {line} e n h =
-      let t : i * 80 + 80 - i * 80 ≡ 80 = omega arith in
-      let q : 0 + length (records_of f i) ≡ i * 80 = omega (arith, records_length i) in
-      rw (t, put_mid_lem (i * 80) 80 out line (ap length n ∙ wide i) h, add-one i, sets_append (records_of f i) (f i) l 0, q, e, n)
+  written_none = record { bytes = refl; wide = refl }
+
+  pub written_next : (n : ℕ) {out line : List ℕ} → Written f n old out → line ≡ f n → length line ≡ 80 → n * 80 + 80 ≤ length out
+      → Written f (n + 1) old (put_mid (n * 80) (n * 80 + 80 - n * 80) out line)
+  unfolding records_of
+  written_next n {out} {line} w e k h =
+      let t : n * 80 + 80 - n * 80 ≡ 80 = omega arith in
+      let q : 0 + length (records_of f n) ≡ n * 80 = omega (arith, w.wide) in
+      record {
+        bytes = rw (t, put_mid_lem (n * 80) 80 out line k h, add-one n, sets_append (records_of f n) (f n) old 0, q, e, w.bytes);
+        wide = rw (add-one n) (omega (arith, length-append (records_of f n) (f n), w.wide, k, ap length e));
+      }

@@ -53,9 +53,9 @@ unfolding example list_answer summary_answer check_of whole_fault library_fault 
 answers = refl
 
 listings : map (listed_bytes example) (replicate 399 7 ∷ replicate 401 7 ∷ []) ≡ replicate 399 7 ∷ (listing ++ 7 ∷ []) ∷ []
-unfolding example listing list_answer listed_bytes check_of whole_fault library_fault header_fault program_fault bad_sizes misplaced_table misplaced overlapped_words words_meet words_fault word_fault one_executable executable_fault misplaced_section bad_entry misplaced_tables overlapped_by_tables flow_of flow_fault main_trace trace trace_to region visit parts fault_at spare size own_words own_from control_of decode_of format_of operations operators_of descriptor_of report_of first_in list_of ones_in names_end meets0 records_of line_text operation_text operands_in target_text one_source two_sources of_format3 register_text sign_text index_text selectors_text source_text written_text mask_text written_register destination_text digits decimal lettered name_text
+unfolding example listing list_answer listed_bytes check_of whole_fault library_fault header_fault program_fault bad_sizes misplaced_table misplaced overlapped_words words_meet words_fault word_fault one_executable executable_fault misplaced_section bad_entry misplaced_tables overlapped_by_tables flow_of flow_fault main_trace trace trace_to region visit parts fault_at spare size own_words own_from control_of decode_of format_of operations operators_of descriptor_of report_of first_in list_of ones_in names_end meets0 records_of line_text source_text destination_text digits decimal lettered name_text
 listings = refl
 
 summaries : map (summary_bytes example) (replicate 79 7 ∷ replicate 81 7 ∷ []) ≡ replicate 79 7 ∷ (summary ++ 7 ∷ []) ∷ []
-unfolding example summary summary_answer summary_bytes records_of report_text head_text counts_text labelled digits check_of whole_fault library_fault header_fault program_fault bad_sizes misplaced_table misplaced overlapped_words words_meet words_fault word_fault one_executable executable_fault misplaced_section bad_entry misplaced_tables overlapped_by_tables flow_of flow_fault main_trace trace trace_to region visit parts fault_at spare size own_words own_from control_of decode_of format_of operations operators_of descriptor_of report_of first_in list_of ones_in names_end meets0
+unfolding example summary summary_answer summary_bytes records_of report_text labelled digits check_of whole_fault library_fault header_fault program_fault bad_sizes misplaced_table misplaced overlapped_words words_meet words_fault word_fault one_executable executable_fault misplaced_section bad_entry misplaced_tables overlapped_by_tables flow_of flow_fault main_trace trace trace_to region visit parts fault_at spare size own_words own_from control_of decode_of format_of operations operators_of descriptor_of report_of first_in list_of ones_in names_end meets0
 summaries = refl

@@ -1,19 +1,17 @@
 -- The listing and the report of a whole library (document 01, 'Listing and report', 'Numbers given back').
 -- Assumes nothing.
-use Rattle.std.specs.Prelude.{ℕ, zero, suc, ◌+◌, ◌*◌, List, [], ◌++◌, ltb, length}
+use Rattle.std.specs.Prelude.{◌≡◌, ℕ, zero, suc, ◌+◌, ◌*◌, ◌<◌, List, [], ◌++◌, ltb, length, take}
 use Rattle.std.proofs.lemmas.List.Edits.{sets}
 use Rattle.answer.specs.Answers.{Answer, given, refused, or_short}
 use Rattle.binary.specs.Bytes.{u32_at}
 use Rattle.container.specs.declared.placement.Table.{Table}
 use Rattle.container.specs.declared.programs.Program.{Program}
-use Rattle.text.specs.Records.{record_of, line_text, report_text}
+use Rattle.text.specs.Records.{record_of, line_text, report_text, refused_text}
 use Rattle.verifier.specs.Executables.{report_of}
 use Rattle.verifier.specs.Lists.{list_of}
 use Rattle.verifier.specs.Verdict.{check_of}
 use Rattle.verifier.specs.Words.{word_at}
 use Rattle.verifier.specs.declared.verdict.Library.{Library}
-use Rattle.listing.specs.declared.Written.{Written}
-use Rattle.listing.specs.declared.Written.TheVariants as written
 
 -- 'descriptor 8 (first 4 are used)'
 abbrev pub descriptor_at : List ℕ → Table → ℕ → ℕ
@@ -43,6 +41,10 @@ room size n = or_short (ltb size (n * 80)) (given (n * 80))
 abbrev pub writes : Answer ℕ → List ℕ → List ℕ → List ℕ
 writes (given n) records old = sets old 0 records
 writes (refused number place) records old = old
+
+-- the same of records that a closure makes, where each has a value of its own
+abbrev pub WritesEach : (ℕ → List ℕ → Type 0) → ℕ → Answer ℕ → List ℕ → List ℕ → Type 0
+WritesEach Makes n answer old new = (f : ℕ → List ℕ) → ((i : ℕ) (r : List ℕ) → i < n → Makes i r → r ≡ f i) → new ≡ writes answer (records_of f n) old
 
 -- the listing
 abbrev pub list_in : ℕ → Answer Library → Answer ℕ
@@ -74,7 +76,7 @@ summary_answer file size = summary_in size (check_of file)
 unfoldable pub summary_bytes : List ℕ → List ℕ → List ℕ
 summary_bytes file old = writes (summary_answer file (length old)) (summaries_in file (check_of file)) old
 
--- the code's answer
-abbrev pub written_as : Written → Answer ℕ
-written_as (written.Bytes n) = given n
-written_as (written.Refused number place) = refused number place
+-- what a program writes of an answer: that many bytes of the text, as far as it has them; or the refusal's record
+abbrev pub text_of : Answer ℕ → List ℕ → List ℕ
+text_of (given n) text = take n text
+text_of (refused number place) text = record_of 80 (refused_text number place)

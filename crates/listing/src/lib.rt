@@ -1,114 +1,112 @@
-// A whole library as text, in a lent buffer: the listing of its words, the report of its executables. Nothing is written where the library is refused or the buffer is too short.
+// A whole library as text, in a lent buffer: the listing of its words, the report of its executables. Nothing is
+// written where the library is refused or the buffer is too short.
 
 #![tactic(auto)]
 
-ghost use Rattle.std.specs.Prelude.{◌≡◌, ◌≤◌, length};
-ghost use Rattle.verifier.specs.Lists.{filled};
+ghost use Rattle.std.specs.Prelude.{◌≡◌, ℕ, ◌<◌, ◌≤◌, length, take, slice_index_or, OnOk};
+ghost use Rattle.std.specs.Io.KnownBytes.{Appends};
+ghost use Rattle.answer.specs.Answers.{answered};
+ghost use Rattle.text.specs.Records.{record_of, line_text, report_text};
+ghost use Rattle.verifier.specs.Executables.{no_report};
 ghost use Rattle.verifier.specs.Words.{word_at};
-ghost use Rattle.listing.specs.Listing.{descriptor_at, written_as, list_answer, listed_bytes, summary_answer, summary_bytes};
+ghost use Rattle.listing.specs.Listing.{WritesEach, descriptors_of, list_answer, listed_bytes, room, summary_answer, summary_bytes, text_of};
 
+use answer::{Reason, Refusal};
 use binary::{ByteOffset, WordAddress, offset_of_word, tail, u32_at};
 use container::Table;
-use text::{listing_line, report_line};
-use verifier::{Checked, check, judge};
-
-// How many bytes were written; or a refusal.
-#[derive(Clone, Copy)]
-pub enum Written {
-    Bytes(u32),
-    Refused { number: u32, place: u32 },
-}
+use std::io;
+use std::io::Write;
+use text::{listing_line, refused_line, report_line};
+use verifier::{check, judge};
 
 fn word_at(file: &[u8], words: Table, p: u32) -> u32
     ensures { result ≡ word_at file.now words p }
 {
-    let start = words.start;
-    u32_at(tail(file, start), offset_of_word(WordAddress(p)))
+    u32_at(tail(file, words.start), offset_of_word(WordAddress(p)))
 }
 
-// The descriptors, and zeros after them. Each has eight bytes, of which the first four are used.
+// The descriptors, and zeros after them. In the file each has eight bytes, of which the first four are used.
 fn descriptors_of(file: &[u8], table: Table) -> [u32; 128]
     requires { table.count ≤ 128 }
-    ensures { result ≡ filled (descriptor_at file.now table) 0 128 table.count 0 }
+    ensures { take table.count result ≡ descriptors_of file.now table }
 {
-    let start = table.start;
-    let bytes = tail(file, start);
+    let bytes = tail(file, table.start);
+    let count = table.count as usize;
     let mut descriptors = [0u32; 128];
-    for p in 0..table.count {
-        let i = p as usize;
-        descriptors[i] = u32_at(bytes, ByteOffset(p as u64 * 8));
+    for (index, descriptor) in descriptors[..count].iter_mut().enumerate() {
+        *descriptor = u32_at(bytes, ByteOffset(index as u64 * 8));
     }
     descriptors
 }
 
-// Writes a record into the part of a buffer that is lent.
-fn write_line(part: &mut [u8], line: [u8; 80])
-    requires { length part.old ≡ 80 }
-    ensures { part.new ≡ line }
+// Writes the records 0, 1, .., `count` in all, and answers how many bytes they have; or refuses a buffer that
+// is too short for them.
+fn write_records<F: Fn(u32) -> [u8; 80]>(
+    out: &mut [u8],
+    count: u32,
+    record_at: F,
+) -> Result<u32, Refusal>
+    requires few { count ≤ 512 }
+    requires callable { (i : ℕ) → i < count → F.pre record_at i }
+    ensures answers { answered result ≡ room (length out.old) count }
+    ensures writes { WritesEach (F.post record_at) count (room (length out.old) count) out.old out.new }
 {
-    for i in 0..80 {
-        part[i] = line[i];
+    if out.len() < count as usize * 80 {
+        return Err(Reason::BufferTooShort.at(0));
     }
+    for index in 0..count {
+        let at = index as usize * 80;
+        out[at..at + 80].copy_from_slice(&record_at(index));
+    }
+    Ok(count * 80)
 }
 
-// The listing: a record for each word.
-pub fn list(file: &[u8], out: &mut [u8]) -> Written
-    ensures answers { written_as result ≡ list_answer file.now (length out.old) }
+// The listing: a record for each word, and how many bytes they have.
+#[tactic(auto, unfolding(crate::specs::Listing::list_answer, crate::specs::Listing::listed_bytes))]
+pub fn list(file: &[u8], out: &mut [u8]) -> Result<u32, Refusal>
+    ensures answers { answered result ≡ list_answer file.now (length out.old) }
     ensures writes { out.new ≡ listed_bytes file.now out.old }
 {
-    let verdict = check(file);
-    let library = match verdict {
-        Checked::Accepted(library) => library,
-        Checked::Refused { number, place } => {
-            return Written::Refused { number, place };
-        }
-    };
-    let words = library.program.words;
-    let count = words.count as usize;
-    if out.len() < count * 80 {
-        return Written::Refused {
-            number: 30,
-            place: 0,
-        };
-    }
-    let described = library.program.descriptors.count as usize;
-    let all = descriptors_of(file, library.program.descriptors);
-    for p in 0..count {
-        let index = p as u32;
-        let line = listing_line(index, word_at(file, words, index), &all[..described]);
-        let at = p * 80;
-        let end = at + 80;
-        write_line(&mut out[at..end], line);
-    }
-    Written::Bytes(words.count * 80)
+    let library = check(file)?;
+    let program = library.program;
+    let all = descriptors_of(file, program.descriptors);
+    let descriptors = &all[..program.descriptors.count as usize];
+    write_records(
+        out,
+        program.words.count,
+        |index|
+            ensures { result ≡ record_of 80 (line_text index (word_at file.entry.now program.words index) descriptors.entry.now) }
+        { listing_line(index, word_at(file, program.words, index), descriptors) },
+    )
 }
 
-// The report: a record for each executable.
-pub fn summarize(file: &[u8], out: &mut [u8]) -> Written
-    ensures answers { written_as result ≡ summary_answer file.now (length out.old) }
+// The report: a record for each executable, and how many bytes they have.
+#[tactic(auto, unfolding(crate::specs::Listing::summary_answer, crate::specs::Listing::summary_bytes, verifier::specs::Verdict::judge_of))]
+pub fn summarize(file: &[u8], out: &mut [u8]) -> Result<u32, Refusal>
+    ensures answers { answered result ≡ summary_answer file.now (length out.old) }
     ensures writes { out.new ≡ summary_bytes file.now out.old }
 {
-    let judged = judge(file);
-    let verdict = judged.verdict;
-    let library = match verdict {
-        Checked::Accepted(library) => library,
-        Checked::Refused { number, place } => {
-            return Written::Refused { number, place };
-        }
-    };
-    let executables = library.executables as usize;
-    if out.len() < executables * 80 {
-        return Written::Refused {
-            number: 30,
-            place: 0,
-        };
+    let judged = judge(file)?;
+    write_records(
+        out,
+        judged.library.executables,
+        |index|
+            requires { index < 16 }
+            ensures { result ≡ record_of 80 (report_text index (slice_index_or judged.reports index no_report)) }
+        { report_line(index, judged.reports[index as usize]) },
+    )
+}
+
+// Writes to an output what a call answered: the bytes that it wrote of the text, or the record of its refusal.
+pub fn write_text<W: Write>(
+    output: &mut W,
+    answer: Result<u32, Refusal>,
+    text: &[u8],
+) -> io::Result<()>
+    ensures { OnOk result (Appends (W.contents output.old) (W.contents output.new) (text_of (answered answer) text.now)) }
+{
+    match answer {
+        Ok(written) => output.write_all(&text[..text.len().min(written as usize)]),
+        Err(refusal) => output.write_all(&refused_line(refusal.number(), refusal.place)),
     }
-    let reports = judged.reports;
-    for i in 0..executables {
-        let line = report_line(i as u32, reports[i]);
-        let from = i * 80;
-        let to = from + 80;
-        write_line(&mut out[from..to], line);
-    }
-    Written::Bytes(library.executables * 80)
 }

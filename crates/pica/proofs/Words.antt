@@ -5,38 +5,24 @@ use mathlib.Core.List.{List, [], ◌∷◌, ◌++◌}
 use Prim.Native.Nat.{ℕ, zero, suc, ◌-◌, ◌≤◌, ◌<◌, ◌^◌}
 use native.Mathlib.Omega.{arith}
 use lib.Dec.{eqb, leb}
+use lib.Pointwise.{pointwise}
+use Rattle.std.specs.Cmp.Lexicographic.{same_text}
 use lib.ListN.{length, get_or, take, drop, replicate, length-drop, take-append-drop}
 use lib.Seq.{take-suc, length-take-le}
-use borrow.Author.Tests.{le-leb, lt-leb, leb-true, eqb-true}
-use Rattle.answer.specs.Answers.{Answer, given, refused}
+use borrow.Author.Tests.{le-leb, leb-true, eq-eqb}
+use Rattle.answer.specs.Answers.{given, refused}
 use Rattle.instruction.proofs.RoundTrip.{encode_decode, decode_encode}
 use Rattle.instruction.specs.Operations.{tag}
 use Rattle.instruction.specs.Words.{decode_of, format_for, encode_of}
 use Rattle.instruction.specs.declared.decoding.Fields.{Fields}
 use Rattle.instruction.specs.declared.decoding.Fields.TheVariants.{Format0, Format1, Format1i, Format1u, Format1c, Format2, Format3, Format4, Format5, Format5i}
-use Rattle.pica.specs.Words.{format_number, field_numbers, eight_numbers, numbered_by, fields_by, zeros, encode_numbers}
-use Rattle.pica.specs.declared.fields.Numbered.{Numbered}
+use Rattle.pica.specs.Words.{format_number, field_numbers, eight_numbers, fields_by, zeros, encode_numbers}
 
-module _ (format : ℕ) (l : List ℕ) where
-  pub no_format : 9 < format → encode_numbers format l ≡ refused 31 0
-  unfolding encode_numbers
-  no_format h = rw (lt-leb format 9 h)
-
-  pub too_few : format ≤ 9 → length l < 8 → encode_numbers format l ≡ refused 31 0
-  unfolding encode_numbers
-  too_few h k = rw (le-leb format 9 h, lt-leb 8 (length l) k)
-
-  -- a format's fields f, and whether the numbers after them are zeros
-  module _ (h : format ≤ 9) (k : 8 ≤ length l) {f : Fields} {t : Numbered} {b : Bool} (e : f ≡ fields_by format l) (g : t ≡ numbered_by f) (z : b ≡ zeros (drop t.count (take 8 l))) where
-    tested : encode_numbers format l ≡ cond b (encode_of f) (refused 31 0)
-    unfolding encode_numbers
-    tested = rw (le-leb format 9 h, le-leb 8 (length l) k, z, g, e)
-
-    pub surplus : b ≡ false → encode_numbers format l ≡ refused 31 0
-    surplus y = tested ∙ rw y
-
-    pub whole : {a : Answer ℕ} → b ≡ true → a ≡ encode_of f → encode_numbers format l ≡ a
-    whole y d = tested ∙ rw (y, d)
+-- a format and eight numbers: what is encoded, if the numbers after the format's fields are zeros
+encoded_if : (format : ℕ) (l : List ℕ) → format ≤ 9 → 8 ≤ length l
+    → encode_numbers format l ≡ cond (zeros (drop (length (field_numbers (fields_by format l))) (take 8 l))) (encode_of (fields_by format l)) (refused 31 0)
+unfolding encode_numbers
+encoded_if format l h k = rw (le-leb format 9 h, le-leb 8 (length l) k)
 
 -- what decoding tells of a word is encoded to that word
 pub record Eight (f : Fields) : Type 0 where
@@ -60,16 +46,7 @@ eight (Format5i op desc src3 src2 src1 idx3 dst) = record { format = omega arith
 pub encode_told : (w : ℕ) → w < 2 ^ 32 → (f : Fields) → decode_of w ≡ given f → encode_numbers (format_number f) (eight_numbers f) ≡ given w
 encode_told w h f e =
     let x = eight f in
-    whole (format_number f) (eight_numbers f) x.format (omega (arith, x.long)) (sym x.fields) refl (sym x.zero) refl (sym (encode_decode w h f e))
-
--- the word that numbers are encoded to is told by these numbers
-zeros_are : (l : List ℕ) → zeros l ≡ true → l ≡ replicate (length l) 0
-zeros_are [] e = refl
-zeros_are (x ∷ l) e = by (eqb x 0) refl e (zeros_are l)
-  where
-    by : (b : Bool) → eqb x 0 ≡ b → (b && zeros l) ≡ true → (zeros l ≡ true → l ≡ replicate (length l) 0) → x ∷ l ≡ replicate (length (x ∷ l)) 0
-    by true h g more = let y = eqb-true x 0 h in let m = more g in cc
-    by false h g more = absurd (let z : true ≡ false = cc in let y : ◌≡◌ {A = ℕ} 0 1 = cc in omega arith)
+    encoded_if (format_number f) (eight_numbers f) x.format (omega (arith, x.long)) ∙ rw (x.fields, x.zero) (encode_decode w h f e)
 
 first_eight : (l : List ℕ) → 8 ≤ length l
     → take 8 l ≡ get_or l 0 0 ∷ get_or l 1 0 ∷ get_or l 2 0 ∷ get_or l 3 0 ∷ get_or l 4 0 ∷ get_or l 5 0 ∷ get_or l 6 0 ∷ get_or l 7 0 ∷ []
@@ -98,6 +75,42 @@ module _ (l : List ℕ) where
   ordered (suc (suc (suc (suc (suc (suc (suc (suc (suc zero))))))))) h = record { same = refl; first = refl }
   ordered (suc (suc (suc (suc (suc (suc (suc (suc (suc (suc k)))))))))) h = absurd (omega arith)
 
+-- lists that begin alike are equal as what follows is; all are zeros
+same_front : (a b c : List ℕ) → pointwise eqb (a ++ b) (a ++ c) ≡ pointwise eqb b c
+same_front [] b c = refl
+same_front (x ∷ a) b c = rw (eq-eqb x x refl) (same_front a b c)
+
+all_zeros : (l : List ℕ) → pointwise eqb l (replicate (length l) 0) ≡ zeros l
+all_zeros [] = refl
+all_zeros (x ∷ l) = ap (λ b. eqb x 0 && b) (all_zeros l)
+
+-- eight numbers are those of their fields exactly if the numbers after the fields are zeros
+module _ (format : ℕ) (l : List ℕ) (h : format ≤ 9) (k : 8 ≤ length l) where
+  abbrev f : Fields
+  f = fields_by format l
+
+  abbrev beyond : List ℕ
+  beyond = drop (length (field_numbers f)) (take 8 l)
+
+  told_again : pointwise eqb (take 8 l) (eight_numbers f) ≡ zeros beyond
+  told_again =
+      let n = length (field_numbers f) in
+      let t = first_eight l k in
+      let s : field_numbers f ≡ take n (take 8 l) = rw t (ordered l format h).first in
+      let m : 8 - n ≡ length beyond = omega (arith, length-drop n (take 8 l), length-take-le 8 l k) in
+      let x : take n (take 8 l) ++ beyond ≡ take 8 l = take-append-drop n (take 8 l) in
+      let y : eight_numbers f ≡ take n (take 8 l) ++ replicate (length beyond) 0 = cc in
+      let z = same_front (take n (take 8 l)) beyond (replicate (length beyond) 0) in
+      ap (λ a. pointwise eqb a (eight_numbers f)) (sym x) ∙ ap (pointwise eqb (take n (take 8 l) ++ beyond)) y ∙ z ∙ all_zeros beyond
+
+  fields_again : fields_by format (take 8 l) ≡ f
+  fields_again = rw (first_eight l k)
+
+  -- what a call encodes of the first eight numbers
+  pub encoded_of : {xs : List ℕ} → xs ≡ take 8 l
+      → encode_numbers format l ≡ cond (pointwise eqb xs (eight_numbers (fields_by format xs))) (encode_of (fields_by format xs)) (refused 31 0)
+  encoded_of e = rw (e, fields_again, told_again) (encoded_if format l h k)
+
 pub told_encoded : (format : ℕ) (l : List ℕ) (w : ℕ) → encode_numbers format l ≡ given w
     → (f : Fields) × (decode_of w ≡ given f) × (format_number f ≡ format) × (eight_numbers f ≡ take 8 l)
 unfolding encode_numbers
@@ -112,13 +125,9 @@ told_encoded format l w e = by (leb format 9) (leb 8 (length l)) (zeros rest) re
     by : (a b c : Bool) → leb format 9 ≡ a → leb 8 (length l) ≡ b → zeros rest ≡ c → cond (a && (b && c)) (encode_of f) (refused 31 0) ≡ given w
         → (f : Fields) × (decode_of w ≡ given f) × (format_number f ≡ format) × (eight_numbers f ≡ take 8 l)
     by true true true x y z g =
-        let h = leb-true 8 (length l) y in
-        let o = ordered l format (leb-true format 9 x) in
-        let t = first_eight l h in
-        let n : length rest ≡ 8 - length (field_numbers f) = omega (arith, length-drop (length (field_numbers f)) (take 8 l), length-take-le 8 l h) in
-        let r : replicate (8 - length (field_numbers f)) 0 ≡ rest = rw (← n) (sym (zeros_are rest z)) in
-        let s : field_numbers f ≡ take (length (field_numbers f)) (take 8 l) = rw t o.first in
-        (f, decode_encode f w g, o.same, ap (λ x. x ++ replicate (8 - length (field_numbers f)) 0) s ∙ ap (λ x. take (length (field_numbers f)) (take 8 l) ++ x) r ∙ take-append-drop (length (field_numbers f)) (take 8 l))
+        let h = leb-true format 9 x in
+        let k = leb-true 8 (length l) y in
+        (f, decode_encode f w g, (ordered l format h).same, sym (same_text (take 8 l) (eight_numbers f) (sym (told_again format l h k ∙ z))))
     by true true false x y z g = absurd (let q : ◌≡◌ {A = ℕ} 0 1 = cc in omega arith)
     by true false c x y z g = absurd (let q : ◌≡◌ {A = ℕ} 0 1 = cc in omega arith)
     by false b c x y z g = absurd (let q : ◌≡◌ {A = ℕ} 0 1 = cc in omega arith)

@@ -1,9 +1,10 @@
 -- The walk and the constants of an executable as calls for C.
 -- Assumes nothing.
-use Rattle.std.specs.Prelude.{◌≡◌, Bool, not, cond, List, [], ◌∷◌, ℕ, ◌/◌, ◌^◌, ◌<◌, T, Float}
+use Rattle.std.specs.Prelude.{◌≡◌, Bool, not, cond, List, [], ◌∷◌, ℕ, ◌/◌, ◌^◌, ◌<◌, T, Float, Result}
 use Rattle.std.specs.Float.{binary32}
 use Rattle.std.specs.Float.Ieee.{to_bits, is_nan}
-use Rattle.answer.specs.Answers.{Answer, given, map_answer}
+use Rattle.answer.specs.Answers.{Answer, given, refused, map_answer, answered}
+use Rattle.answer.specs.declared.Refusal.{Refusal}
 use Rattle.tables.specs.declared.constants.ByteVector.{ByteVector}
 use Rattle.tables.specs.declared.constants.Constant.{Constant}
 use Rattle.tables.specs.declared.constants.Constant.TheVariants.{Flag, Bytes, Vector}
@@ -48,3 +49,7 @@ constant_reply file index n size = fitted size (map_answer constant_numbers (con
 -- 18 is never answered after an accepted check
 abbrev pub HandsNo18 : List ℕ → ℕ → Type 0
 HandsNo18 file r = (l : Library) → check_of file ≡ given l → r / 2 ^ 32 ≡ 18 → ⊥
+
+-- the same of an answer that is not yet one number
+abbrev pub RepliesNo18 : List ℕ → Result ℕ Refusal → Type 0
+RepliesNo18 file r = (l : Library) → check_of file ≡ given l → (place : ℕ) → answered r ≡ refused 18 place → ⊥

@@ -6,7 +6,6 @@ use Rattle.instruction.specs.Words.{decode_of, encode_of}
 use Rattle.instruction.specs.declared.decoding.Fields.{Fields}
 use Rattle.instruction.specs.declared.decoding.Fields.TheVariants.{Format0, Format1, Format1i, Format1u, Format1c, Format2, Format3, Format4, Format5, Format5i}
 use Rattle.pica.specs.Replies.{Reply, reply, fitted}
-use Rattle.pica.specs.declared.fields.Numbered.{Numbered}
 
 -- formats '0 to 9 in the order 0, 1, 1i, 1u, 1c, 2, 3, 4, 5, 5i'
 abbrev pub format_number : Fields → ℕ
@@ -37,9 +36,6 @@ field_numbers (Format5i op desc src3 src2 src1 idx3 dst) = op ∷ desc ∷ src3 
 -- eight numbers: these, 'then zeros'
 abbrev pub eight_numbers : Fields → List ℕ
 eight_numbers f = field_numbers f ++ replicate (8 - length (field_numbers f)) 0
-
-abbrev pub numbered_by : Fields → Numbered
-numbered_by f = record { format = format_number f; count = length (field_numbers f); numbers = eight_numbers f }
 
 abbrev pub word_reply : Fields → Reply
 word_reply f = reply (format_number f) (eight_numbers f)

@@ -1,39 +1,30 @@
 // An answer as one number, and numbers in a lent buffer.
-ghost use Rattle.std.specs.Prelude.{◌≡◌, ◌≤◌, length};
-ghost use Rattle.std.proofs.lemmas.List.Edits.{sets};
-ghost use Rattle.answer.specs.Answers.{refused, given, map_answer};
+ghost use Rattle.std.specs.Prelude.{◌≡◌, length};
+ghost use Rattle.answer.specs.Answers.{answered, given, map_answer};
 ghost use Rattle.pica.specs.Replies.{Answered, reply, value_of, fitted, buffer_after};
 
-pub(crate) fn refused(number: u32, place: u32) -> u64
-    ensures { Answered (refused number place) result }
-{
-    number as u64 * 0x1_0000_0000 + place as u64
-}
+use answer::{Reason, Refusal};
 
-pub(crate) fn given(value: u32) -> u64
-    ensures { Answered (given value) result }
+// A value as it is, a refusal by its number in the upper half and its place in the lower.
+pub(crate) fn packed(answer: Result<u32, Refusal>) -> u64
+    ensures { Answered (answered answer) result }
 {
-    value as u64
-}
-
-// Writes numbers to the start of a buffer.
-fn put(out: &mut [u32], numbers: &[u32])
-    requires { length numbers.now ≤ length out.old }
-    ensures { out.new ≡ sets out.old 0 numbers.now }
-{
-    for i in 0..numbers.len() {
-        out[i] = numbers[i];
+    match answer {
+        Ok(value) => u64::from(value),
+        Err(refusal) => u64::from(refusal.number()) * 0x1_0000_0000 + u64::from(refusal.place),
     }
 }
 
-// Answers a value and writes the numbers that belong to it, or refuses a buffer that is too short for them.
-pub(crate) fn replied(value: u32, numbers: &[u32], out: &mut [u32]) -> u64
-    ensures answers { Answered (map_answer value_of (fitted (length out.old) (given (reply value numbers.now)))) result }
+// Writes the numbers that belong to a value to the start of a buffer, and answers the value; or refuses a buffer
+// that is too short for them.
+#[tactic(auto, using(crate::proofs::Laws::put_first))]
+pub(crate) fn replied(value: u32, numbers: &[u32], out: &mut [u32]) -> Result<u32, Refusal>
+    ensures answers { answered result ≡ map_answer value_of (fitted (length out.old) (given (reply value numbers.now))) }
     ensures writes { out.new ≡ buffer_after out.old (fitted (length out.old) (given (reply value numbers.now))) }
 {
     if out.len() < numbers.len() {
-        return refused(30, 0);
+        return Err(Reason::BufferTooShort.at(0));
     }
-    put(out, numbers);
-    given(value)
+    out[..numbers.len()].copy_from_slice(numbers);
+    Ok(value)
 }

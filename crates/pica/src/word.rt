@@ -1,12 +1,35 @@
 // Decoding and encoding of one word.
 ghost use Rattle.std.specs.Prelude.{◌≡◌, length};
-ghost use Rattle.answer.specs.Answers.{map_answer};
+ghost use Rattle.answer.specs.Answers.{answered, map_answer};
 ghost use Rattle.pica.specs.Replies.{Answered, value_of, buffer_after};
 ghost use Rattle.pica.specs.Words.{decode_reply, encode_numbers};
 
-use crate::fields::{field_numbers, fields_of, zeros_from};
-use crate::reply::{given, refused, replied};
-use instruction::{Decoded, Encoded, decode, encode};
+use crate::fields::{fields_of, numbers_of};
+use crate::reply::{packed, replied};
+use answer::{Reason, Refusal};
+use instruction::{decode, encode};
+
+fn write_fields(word: u32, out: &mut [u32]) -> Result<u32, Refusal>
+    ensures answers { answered result ≡ map_answer value_of (decode_reply word (length out.old)) }
+    ensures writes { out.new ≡ buffer_after out.old (decode_reply word (length out.old)) }
+{
+    let (format, numbers) = numbers_of(decode(word)?);
+    replied(format, &numbers, out)
+}
+
+// The numbers of the fields are those that were given exactly if each one after the format's fields is 0.
+#[tactic(auto, unfolding(crate::specs::Words::encode_numbers))]
+fn encode_numbers(format: u32, fields: &[u32]) -> Result<u32, Refusal>
+    ensures { answered result ≡ encode_numbers format fields.now }
+{
+    let refusal = Reason::NotEncodable.at(0);
+    let numbers = fields.first_chunk::<8>().ok_or(refusal)?;
+    let parts = fields_of(format, numbers).ok_or(refusal)?;
+    if *numbers != numbers_of(parts).1 {
+        return Err(refusal);
+    }
+    encode(parts)
+}
 
 // The fields of a word: its format, and eight numbers in `out`.
 #[unsafe(no_mangle)]
@@ -14,14 +37,7 @@ pub extern "C" fn pica_decode(word: u32, out: &mut [u32]) -> u64
     ensures answers { Answered (map_answer value_of (decode_reply word (length out.old))) result }
     ensures writes { out.new ≡ buffer_after out.old (decode_reply word (length out.old)) }
 {
-    match decode(word) {
-        Decoded::Known(fields) => {
-            let told = field_numbers(fields);
-            let numbers = told.numbers;
-            replied(told.format, &numbers, out)
-        }
-        Decoded::Unknown => refused(9, 0),
-    }
+    packed(write_fields(word, out))
 }
 
 // The word that has a format's fields, the first eight numbers of `fields`.
@@ -29,19 +45,5 @@ pub extern "C" fn pica_decode(word: u32, out: &mut [u32]) -> u64
 pub extern "C" fn pica_encode(format: u32, fields: &[u32]) -> u64
     ensures { Answered (encode_numbers format fields.now) result }
 {
-    if 9 < format {
-        return refused(31, 0);
-    }
-    if fields.len() < 8 {
-        return refused(31, 0);
-    }
-    let parts = fields_of(format, fields);
-    if zeros_from(fields, field_numbers(parts).count) {
-        match encode(parts) {
-            Encoded::Word(word) => given(word),
-            Encoded::Refused => refused(31, 0),
-        }
-    } else {
-        refused(31, 0)
-    }
+    packed(encode_numbers(format, fields))
 }

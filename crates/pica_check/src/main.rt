@@ -2,11 +2,9 @@
 
 #![tactic(auto)]
 
-mod file;
 mod line;
 
-use file::{Got, read_file};
-use inputs::{argument, open_file};
+use inputs::{argument, open_file, read_full};
 use line::{write_line, write_verdict};
 use std::env::Env;
 use std::io;
@@ -20,9 +18,10 @@ fn judge_file<F: Files, W: Write>(files: &F, output: &mut W, name: &[u8]) -> io:
         return write_line(output, name, b": cannot be opened\n");
     };
     let mut bytes = [0u8; 65537];
-    match read_file(&mut file, &mut bytes) {
-        Got::Bytes(count) => write_verdict(output, name, check(&bytes[..count])),
-        Got::Failed => write_line(output, name, b": cannot be read\n"),
+    // A file that cannot be read is not an empty one.
+    match read_full(&mut file, &mut bytes) {
+        Ok(count) => write_verdict(output, name, check(&bytes[..count])),
+        Err(_) => write_line(output, name, b": cannot be read\n"),
     }
 }
 

@@ -6,18 +6,12 @@ use inputs::read_full;
 use std::io;
 use std::io::Read;
 
-fn least(a: usize, b: usize) -> usize
-    ensures { (result ≤ a) × (result ≤ b) }
-{
-    if a < b { a } else { b }
-}
-
 // Puts the next bytes at the start of `bytes`, at most `most`, and answers how many there are; fewer than fit where the input ends.
 pub(crate) fn read_some<R: Read>(input: &mut R, most: usize, bytes: &mut [u8]) -> io::Result<usize>
     ensures read { IfOk result (λ count. (count ≤ most) × IsPrefixLen count bytes.new) }
     ensures failed { OnErr result (length bytes.new ≡ length bytes.old) }
 {
-    let size = least(most, bytes.len());
+    let size = most.min(bytes.len());
     read_full(input, &mut bytes[..size])
 }
 

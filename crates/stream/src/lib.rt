@@ -5,9 +5,8 @@
 mod cut_short;
 mod input;
 
-ghost use Rattle.std.specs.Prelude.{◌≡◌, length, IfOk, OnErr};
+ghost use Rattle.std.specs.Prelude.{◌≡◌, [], length, Some, None, IfOk, IfSome, OnOk, OnErr};
 ghost use Rattle.std.specs.Counts.{IsPrefixLen};
-ghost use Rattle.stream.specs.Kept.{kept};
 
 use binary::{ByteOffset, u32_at};
 use cut_short::{write_cut_length, write_cut_library};
@@ -16,21 +15,14 @@ use inputs::read_full;
 use std::io;
 use std::io::{Read, Write};
 
-// How many bytes of a library are kept; or that there is none.
-#[derive(Clone, Copy)]
-pub enum Next {
-    Library(usize),
-    Over,
-}
-
 // One byte more than a library may have is kept, so that a longer one is seen to be longer. The rest is passed over, so that the next library is read from its start.
 fn read_library<R: Read, W: Write>(
     input: &mut R,
     output: &mut W,
     length: usize,
     bytes: &mut [u8; 65537],
-) -> io::Result<Next>
-    ensures { IfOk result (λ next. IsPrefixLen (kept next) bytes.new) }
+) -> io::Result<Option<usize>>
+    ensures { IfOk result (λ next. IfSome next (λ kept. IsPrefixLen kept bytes.new)) }
 {
     let count = read_some(input, length, bytes)?;
     let mut got = count;
@@ -39,19 +31,20 @@ fn read_library<R: Read, W: Write>(
     }
     if got < length {
         write_cut_library(output, got, length)?;
-        return Ok(Next::Over);
+        return Ok(None);
     }
-    Ok(Next::Library(count))
+    Ok(Some(count))
 }
 
-// Puts the next library at the start of `bytes`. A stream that is cut short is over, and a line of the output
-// says so: every trial shows it alike.
+// Puts the next library at the start of `bytes`, and answers how many of its bytes are kept; none where the
+// stream is over. One that is cut short is over, and a line of the output says so: every trial shows it alike.
 pub fn next_library<R: Read, W: Write>(
     input: &mut R,
     output: &mut W,
     bytes: &mut [u8; 65537],
-) -> io::Result<Next>
-    ensures next { IfOk result (λ next. IsPrefixLen (kept next) bytes.new) }
+) -> io::Result<Option<usize>>
+    ensures next { IfOk result (λ next. IfSome next (λ kept. IsPrefixLen kept bytes.new)) }
+    ensures over { R.remaining input.old ≡ Some [] → IfOk result (λ next. (next ≡ None) × (output.new ≡ output.old)) }
     ensures failed { OnErr result (length bytes.new ≡ length bytes.old) }
 {
     let mut length = [0u8; 4];
@@ -63,5 +56,28 @@ pub fn next_library<R: Read, W: Write>(
     if 0 < got {
         write_cut_length(output, got)?;
     }
-    Ok(Next::Over)
+    Ok(None)
+}
+
+// Visits one library after another, until the stream is over or a visit answers that it was the last. A proved
+// loop has to end, and nothing says that the input does: so it counts its turns, up to a number that no run
+// uses up.
+pub fn each_library<R: Read, W: Write, F: FnMut(&mut R, &mut W, &[u8]) -> io::Result<bool>>(
+    input: &mut R,
+    output: &mut W,
+    mut visit: F,
+) -> io::Result<()>
+    requires { F.IsAlwaysCallable visit }
+    ensures { R.remaining input.old ≡ Some [] → OnOk result (output.new ≡ output.old) }
+{
+    let mut bytes = [0u8; 65537];
+    for _ in 0..u64::MAX {
+        let Some(kept) = next_library(input, output, &mut bytes)? else {
+            break;
+        };
+        if !visit(input, output, &bytes[..kept])? {
+            break;
+        }
+    }
+    Ok(())
 }

@@ -1,28 +1,29 @@
 -- Laws of names, of a float24's f32 and of constants. Assumes nothing.
-use mathlib.Core.Path.{◌≡◌, refl, ap, ◌∙◌}
+use mathlib.Core.Path.{◌≡◌, refl}
 use mathlib.Core.Bool.{Bool, true, false, not, ◌&&◌, ◌||◌, cond, true≢false}
-use mathlib.Core.List.{List, [], ◌∷◌, ◌++◌, map}
-use Prim.Native.Nat.{ℕ, zero, suc, ◌+◌, ◌-◌, ◌*◌, ◌/◌, ◌%◌, ◌^◌, ◌<◌, ◌≤◌}
+use mathlib.Core.List.{List, [], ◌∷◌, map}
+use mathlib.Core.Logic.{◌≢◌}
+use Prim.Native.Nat.{ℕ, zero, suc, ◌+◌, ◌*◌, ◌/◌, ◌%◌, ◌^◌, ◌<◌, ◌≤◌}
 use native.Mathlib.Numerals.{add-one}
 use native.Mathlib.Omega.{arith}
 use lib.Dec.{T, eqb, leb, ltb, leb-suc-zero, leb-suc-suc}
 use lib.Ieee.{binary32, of_bits, to_bits, nan_bits}
 use lib.Ieee.Bits.{to_bits-of_bits, nan_bits_is}
 use lib.Pow.{low, high}
-use lib.ListN.{length, get_or, take}
-use lib.Seq.{take-suc, length-take-le}
+use lib.ListN.{length, get_or}
 use borrow.Author.Tests.{lt-ltb, le-ltb, eq-eqb, ne_eqb, eqb-true, eqb-false}
+use Rattle.std.specs.Prelude.{Some, None}
+use Rattle.std.specs.Bool.{then_some}
 use Rattle.binary.specs.Bytes.{u8_at, u32_at}
 use Rattle.bits.specs.Fields.{fields_from, pack, fit}
 use Rattle.bits.proofs.Laws.{fields_pack}
-use Rattle.tables.specs.Constants.{entry_of, constant_if, flag_of, bytes_of, f32_of, vector_of, convert_of, floats_of}
+use Rattle.tables.specs.Constants.{entry_of, flag_of, bytes_of, f32_of, vector_of, convert_of, floats_of}
 use Rattle.tables.specs.Entries.{label_address, label_name, good_label, uniform_name, uniform_start, uniform_end, in_one_kind, good_uniform}
 use Rattle.tables.specs.Float24.{fraction, exponent, sign, top_byte, f32_bits}
 use Rattle.tables.specs.Names.{meets0, good_name, names_end}
 use Rattle.tables.specs.declared.constants.Constant.{Constant}
 use Rattle.tables.specs.declared.constants.Constant.TheVariants.{Flag, Bytes, Vector}
 use Rattle.tables.specs.declared.constants.ConstantEntry.{ConstantEntry}
-use Rattle.tables.specs.declared.constants.Converted.TheVariants as converted
 use Rattle.tables.specs.declared.constants.FloatVector.{FloatVector}
 
 -- without a 00 byte names end at 0
@@ -64,45 +65,24 @@ module _ (s symbols : List ℕ) where
   unfolding good_uniform
   uniform_name_lem = rw (good_names symbols (uniform_name s))
 
--- where names end, by the last byte
-meets_last : (s : List ℕ) (b : ℕ) → meets0 (s ++ b ∷ []) ≡ (meets0 s || eqb b 0)
+-- where names end, by the last byte that is 00
+none_met : (s : List ℕ) → ((k : ℕ) → k < length s → get_or s k 0 ≢ 0) → meets0 s ≡ false
 unfolding meets0
-meets_last [] b = by (eqb b 0)
+none_met [] h = refl
+none_met (b ∷ s) h = rw (ne_eqb b 0 (h 0 (omega arith)), none_met s (λ k l. h (suc k) (omega arith)))
+
+pub no_zero : (s : List ℕ) → ((k : ℕ) → k < length s → get_or s k 0 ≢ 0) → names_end s ≡ 0
+no_zero s h = no_names s (none_met s h)
+
+pub last_zero : (s : List ℕ) (i : ℕ) → i < length s → get_or s i 0 ≡ 0 → ((k : ℕ) → i < k → k < length s → get_or s k 0 ≢ 0) → names_end s ≡ i + 1
+unfolding names_end
+last_zero [] i l e h = absurd (omega arith)
+last_zero (b ∷ s) zero l e h = rw (none_met s (λ k m. h (suc k) (omega arith) (omega arith)), eq-eqb b 0 e)
+last_zero (b ∷ s) (suc i) l e h = by (meets0 s) refl (last_zero s i (omega arith) e (λ k m n. h (suc k) (omega arith) (omega arith)))
   where
-    by : (z : Bool) → (z || false) ≡ z
-    by true = refl
-    by false = refl
-meets_last (a ∷ s) b = rw (meets_last s b) (by (eqb a 0))
-  where
-    by : (z : Bool) → (z || (meets0 s || eqb b 0)) ≡ (z || meets0 s || eqb b 0)
-    by true = refl
-    by false = refl
-
-last_byte : (s : List ℕ) (b : ℕ) → names_end (s ++ b ∷ []) ≡ cond (eqb b 0) (length s + 1) (names_end s)
-unfolding meets0 names_end
-last_byte [] b = refl
-last_byte (a ∷ s) b = rw (meets_last s b, last_byte s b) (by (meets0 s) (eqb b 0) (cond (eqb a 0) 1 0))
-  where
-    by : (m z : Bool) (n : ℕ) → cond (m || z) (cond z (length s + 1) (names_end s) + 1) n ≡ cond z (suc (length s) + 1) (cond m (names_end s + 1) n)
-    by true true n = omega arith
-    by false true n = omega arith
-    by true false n = refl
-    by false false n = refl
-
--- the search from the end down: what the byte before a place tells
-module _ (s : List ℕ) (end : ℕ) (some : 0 < end) (inside : end ≤ length s) where
-  searched : names_end (take end s) ≡ cond (eqb (get_or s (end - 1) 0) 0) end (names_end (take (end - 1) s))
-  searched =
-      let n = end - 1 in
-      let next : suc n ≡ end = omega arith in
-      let long : length (take n s) + 1 ≡ end = omega (arith, length-take-le n s (omega arith)) in
-      rw (next, long) at (ap names_end (take-suc s n 0 (omega arith)) ∙ last_byte (take n s) (get_or s n 0))
-
-  pub found : get_or s (end - 1) 0 ≡ 0 → names_end (take end s) ≡ end
-  found e = searched ∙ rw (eq-eqb (get_or s (end - 1) 0) 0 e)
-
-  pub passed : (get_or s (end - 1) 0 ≡ 0 → ⊥) → names_end (take end s) ≡ names_end (take (end - 1) s)
-  passed e = searched ∙ rw (ne_eqb (get_or s (end - 1) 0) 0 e)
+    by : (m : Bool) → meets0 s ≡ m → names_end s ≡ i + 1 → cond m (names_end s + 1) (cond (eqb b 0) 1 0) ≡ suc i + 1
+    by true q r = omega arith
+    by false q r = absurd (omega (arith, no_names s q))
 
 -- a float24 word has these fields, from bit 0 up, and no bit besides
 pub float24_fields : (w : ℕ) → fields_from 0 (16 ∷ 7 ∷ 1 ∷ 8 ∷ []) w ≡ fraction w ∷ exponent w ∷ sign w ∷ top_byte w ∷ []
@@ -185,31 +165,30 @@ word_bytes s at h =
 
 -- a bool's value and an integer's bytes x y z w are the bytes of the file at 4 to 7
 module _ (s : List ℕ) (bytes : (k : ℕ) → u8_at s k < 256) where
-  pub bool_byte_lem : flag_of (entry_of s) ≡ constant_if (leb (u8_at s 2) 15 && leb (u8_at s 4) 1) (Flag (eqb (u8_at s 4) 1))
+  pub bool_byte_lem : flag_of (entry_of s) ≡ then_some (leb (u8_at s 2) 15 && leb (u8_at s 4) 1) (Flag (eqb (u8_at s 4) 1))
   bool_byte_lem = let e = word_bytes s 4 bytes in cc
 
-  pub integer_bytes : bytes_of (entry_of s) ≡ constant_if (leb (u8_at s 2) 3) (Bytes (record { x = u8_at s 4; y = u8_at s 5; z = u8_at s 6; w = u8_at s 7 }))
+  pub integer_bytes : bytes_of (entry_of s) ≡ then_some (leb (u8_at s 2) 3) (Bytes (record { x = u8_at s 4; y = u8_at s 5; z = u8_at s 6; w = u8_at s 7 }))
   integer_bytes = let e = word_bytes s 4 bytes in cc
 
 -- the components of a vector have the bits of their words
 apart : {A : Type 0} → ◌≡◌ {A = ℕ} 0 1 → A
 apart z = absurd (omega arith)
 
-the_constant : (good : Bool) {c d : Constant} → constant_if good c ≡ converted.Constant d → c ≡ d
-unfolding constant_if
+the_constant : (good : Bool) {c d : Constant} → then_some good c ≡ Some d → c ≡ d
 the_constant true r = cc
 the_constant false r = apart (cc)
 
-pub vector_floats : (e : ConstantEntry) (v : FloatVector) → convert_of e ≡ converted.Constant (Vector v) → floats_of e ≡ v
+pub vector_floats : (e : ConstantEntry) (v : FloatVector) → convert_of e ≡ Some (Vector v) → floats_of e ≡ v
 unfolding convert_of
 vector_floats e v q = let same : Vector (floats_of e) ≡ Vector v = by (eqb e.kind 0) (eqb e.kind 1) (eqb e.kind 2) q in cc
   where
-    by : (a b c : Bool) → cond a (flag_of e) (cond b (bytes_of e) (cond c (vector_of e) converted.Bad)) ≡ converted.Constant (Vector v) → Vector (floats_of e) ≡ Vector v
+    by : (a b c : Bool) → cond a (flag_of e) (cond b (bytes_of e) (cond c (vector_of e) None)) ≡ Some (Vector v) → Vector (floats_of e) ≡ Vector v
     by true b c r = let f = the_constant _ r in apart (cc)
     by false true c r = let f = the_constant _ r in apart (cc)
     by false false true r = the_constant _ r
     by false false false r = apart (cc)
 
-pub vector_bits : (e : ConstantEntry) (v : FloatVector) → convert_of e ≡ converted.Constant (Vector v)
+pub vector_bits : (e : ConstantEntry) (v : FloatVector) → convert_of e ≡ Some (Vector v)
     → map (to_bits binary32) (v.x ∷ v.y ∷ v.z ∷ v.w ∷ []) ≡ map f32_bits (e.x ∷ e.y ∷ e.z ∷ e.w ∷ [])
 vector_bits e v q = rw (← vector_floats e v q, has_bits e.x, has_bits e.y, has_bits e.z, has_bits e.w)

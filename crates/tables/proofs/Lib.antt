@@ -1,4 +1,3 @@
 pub mod Exact
-pub mod Good
 pub mod Laws
 pub mod Trials

@@ -4,13 +4,13 @@ use mathlib.Core.Bool.{true, false}
 use mathlib.Core.List.{List, [], ◌∷◌, map}
 use Prim.Native.Nat.{ℕ}
 use lib.Ieee.{binary32, of_bits}
-use Rattle.answer.specs.declared.Fault.TheVariants.{Nothing, At}
-use Rattle.tables.specs.Constants.{entry_of, constant_if, convert_of, constant_fault}
+use Rattle.std.specs.Prelude.{Some}
+use Rattle.answer.specs.Faults.{Nothing, At}
+use Rattle.tables.specs.Constants.{entry_of, convert_of, constant_fault}
 use Rattle.tables.specs.Entries.{good_label, label_fault, good_output, output_fault, in_one_kind, good_uniform, uniform_fault}
 use Rattle.tables.specs.Float24.{good_float24, f32_bits}
 use Rattle.tables.specs.Names.{meets0, good_name, names_end}
 use Rattle.tables.specs.declared.constants.Constant.TheVariants.{Flag, Bytes, Vector}
-use Rattle.tables.specs.declared.constants.Converted.TheVariants as converted
 
 -- P12, with both zeros
 p12 : map f32_bits (0x3f0000 ∷ 0xbf0000 ∷ 0x3f8000 ∷ 0x000000 ∷ 0x800000 ∷ [])
@@ -101,15 +101,15 @@ floats = 0 ∷ 0 ∷ 0x3f ∷ 0 ∷ 0 ∷ 0 ∷ 0xbf ∷ 0 ∷ 0 ∷ 0x80 ∷ 0x
 
 given : map (λ e. convert_of (entry_of e))
     (constant 0 15 (1 ∷ 2 ∷ []) ∷ constant 0 0 (0 ∷ []) ∷ constant 1 3 (1 ∷ 2 ∷ 3 ∷ 4 ∷ []) ∷ constant 2 95 floats ∷ [])
-    ≡ converted.Constant (Flag true) ∷ converted.Constant (Flag false) ∷ converted.Constant (Bytes (record { x = 1; y = 2; z = 3; w = 4 }))
-    ∷ converted.Constant (Vector (record { x = of_bits binary32 0x3f800000; y = of_bits binary32 0xbf800000; z = of_bits binary32 0x3fc00000; w = of_bits binary32 0x80000000 })) ∷ []
-unfolding convert_of constant_if good_float24 f32_bits floats
+    ≡ Some (Flag true) ∷ Some (Flag false) ∷ Some (Bytes (record { x = 1; y = 2; z = 3; w = 4 }))
+    ∷ Some (Vector (record { x = of_bits binary32 0x3f800000; y = of_bits binary32 0xbf800000; z = of_bits binary32 0x3fc00000; w = of_bits binary32 0x80000000 })) ∷ []
+unfolding convert_of good_float24 f32_bits floats
 given = refl
 
 refused : map (λ e. constant_fault e 3)
     (constant 2 95 floats ∷ constant 0 16 (1 ∷ []) ∷ constant 0 0 (2 ∷ []) ∷ constant 1 4 [] ∷ constant 2 96 floats ∷ constant 2 0 (0 ∷ 0 ∷ 0x7f ∷ []) ∷ constant 3 0 [] ∷ [])
     ≡ Nothing ∷ At 18 3 ∷ At 18 3 ∷ At 18 3 ∷ At 18 3 ∷ At 18 3 ∷ At 18 3 ∷ []
-unfolding constant_fault convert_of constant_if good_float24 f32_bits floats
+unfolding constant_fault convert_of good_float24 f32_bits floats
 refused = refl
 
 -- .. a vector whose x, y, z or w alone is bad
@@ -119,5 +119,5 @@ words x y z w = x ∷ 0 ∷ 0 ∷ 0 ∷ y ∷ 0 ∷ 0 ∷ 0 ∷ z ∷ 0 ∷ 0 �
 bad_words : map (λ e. constant_fault e 3)
     (constant 2 0 (words 1 0 0 0) ∷ constant 2 0 (words 0 1 0 0) ∷ constant 2 0 (words 0 0 1 0) ∷ constant 2 0 (words 0 0 0 1) ∷ constant 2 0 (words 0 0 0 0) ∷ [])
     ≡ At 18 3 ∷ At 18 3 ∷ At 18 3 ∷ At 18 3 ∷ Nothing ∷ []
-unfolding constant_fault convert_of constant_if good_float24 f32_bits
+unfolding constant_fault convert_of good_float24 f32_bits
 bad_words = refl

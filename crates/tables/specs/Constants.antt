@@ -1,20 +1,18 @@
 -- Constants (document 01, 'Layout of a library'; the offsets are those of documents 000 and 001), and refusal 18.
 -- An entry is the list of the file's bytes from its start on.
 -- Assumes nothing.
-use Rattle.std.specs.Prelude.{ℕ, Bool, true, false, ◌&&◌, cond, List, eqb, leb, Float}
+use Rattle.std.specs.Prelude.{ℕ, Bool, ◌&&◌, cond, List, eqb, leb, is_none, Float, Option, None}
+use Rattle.std.specs.Bool.{then_some}
 use Rattle.std.specs.Float.{binary32}
 use Rattle.std.specs.Float.Ieee.{of_bits}
-use Rattle.answer.specs.Faults.{fault_if}
-use Rattle.answer.specs.declared.Fault.{Fault}
+use Rattle.answer.specs.Faults.{Fault, fault_if}
 use Rattle.binary.specs.Bytes.{u8_at, u32_at}
 use Rattle.bits.specs.Fields.{field}
 use Rattle.tables.specs.Float24.{good_float24, f32_bits}
 use Rattle.tables.specs.declared.constants.ConstantEntry.{ConstantEntry}
 use Rattle.tables.specs.declared.constants.Constant.{Constant}
 use Rattle.tables.specs.declared.constants.Constant.TheVariants.{Flag, Bytes, Vector}
-use Rattle.tables.specs.declared.constants.Converted.{Converted}
 use Rattle.tables.specs.declared.constants.FloatVector.{FloatVector}
-use Rattle.tables.specs.declared.constants.Converted.TheVariants as converted
 
 -- what an entry holds; a bool's value is the lowest byte of x, an integer's bytes are all four, lowest first
 abbrev pub entry_of : List ℕ → ConstantEntry
@@ -28,19 +26,14 @@ entry_of s =
       w = u32_at s 0x10;
     }
 
--- a constant if the entry is good
-unfoldable pub constant_if : Bool → Constant → Converted
-constant_if true c = converted.Constant c
-constant_if false c = converted.Bad
-
 -- 'kind 0 bool (ID 0 to 15, value 0 or 1)': the value is the byte at 4
-abbrev pub flag_of : ConstantEntry → Converted
-flag_of e = constant_if (leb e.id 15 && leb (field 0 8 e.x) 1) (Flag (eqb (field 0 8 e.x) 1))
+abbrev pub flag_of : ConstantEntry → Option Constant
+flag_of e = then_some (leb e.id 15 && leb (field 0 8 e.x) 1) (Flag (eqb (field 0 8 e.x) 1))
 
 -- '1 integer (ID 0 to 3, bytes x y z w)': the bytes at 4 to 7
-abbrev pub bytes_of : ConstantEntry → Converted
+abbrev pub bytes_of : ConstantEntry → Option Constant
 bytes_of e =
-    constant_if (leb e.id 3)
+    then_some (leb e.id 3)
     (Bytes (record { x = field 0 8 e.x; y = field 8 8 e.x; z = field 16 8 e.x; w = field 24 8 e.x }))
 
 -- '2 vector (ID 0 to 95, four float24 words)'
@@ -50,19 +43,18 @@ f32_of w = of_bits binary32 (f32_bits w)
 abbrev pub floats_of : ConstantEntry → FloatVector
 floats_of e = record { x = f32_of e.x; y = f32_of e.y; z = f32_of e.z; w = f32_of e.w }
 
-abbrev pub vector_of : ConstantEntry → Converted
+abbrev pub vector_of : ConstantEntry → Option Constant
 vector_of e =
-    constant_if (leb e.id 95 && (good_float24 e.x && good_float24 e.y && good_float24 e.z && good_float24 e.w))
+    then_some (leb e.id 95 && (good_float24 e.x && good_float24 e.y && good_float24 e.z && good_float24 e.w))
     (Vector (floats_of e))
 
 -- no other kind is good
-unfoldable pub convert_of : ConstantEntry → Converted
-convert_of e = cond (eqb e.kind 0) (flag_of e) (cond (eqb e.kind 1) (bytes_of e) (cond (eqb e.kind 2) (vector_of e) converted.Bad))
+unfoldable pub convert_of : ConstantEntry → Option Constant
+convert_of e = cond (eqb e.kind 0) (flag_of e) (cond (eqb e.kind 1) (bytes_of e) (cond (eqb e.kind 2) (vector_of e) None))
 
 -- 18: a bad constant
-abbrev pub is_bad : Converted → Bool
-is_bad (converted.Constant c) = false
-is_bad converted.Bad = true
+abbrev pub is_bad : Option Constant → Bool
+is_bad c = is_none c
 
 unfoldable pub constant_fault : List ℕ → ℕ → Fault
 constant_fault s place = fault_if (is_bad (convert_of (entry_of s))) 18 place

@@ -2,8 +2,7 @@
 -- An entry is the list of the file's bytes from its start on.
 -- Assumes nothing.
 use Rattle.std.specs.Prelude.{ℕ, Bool, not, ◌&&◌, ◌||◌, List, eqb, leb, ltb}
-use Rattle.answer.specs.Faults.{fault_if}
-use Rattle.answer.specs.declared.Fault.{Fault}
+use Rattle.answer.specs.Faults.{Fault, fault_if}
 use Rattle.binary.specs.Bytes.{u16_at, u32_at}
 
 -- 'Labels: address at most the word count'. A name is good exactly if it starts before `names_end` of the symbol table (`good_names` of proofs/Laws.antt)

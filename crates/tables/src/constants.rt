@@ -1,11 +1,12 @@
 // Constants: reading an entry, and the constant that it holds; refusal 18.
-ghost use Rattle.std.specs.Prelude.{◌≡◌, not};
+ghost use Rattle.std.specs.Prelude.{◌≡◌, is_some};
+ghost use Rattle.answer.specs.Faults.{faulted};
 ghost use Rattle.bits.specs.Fields.{field};
-ghost use Rattle.tables.specs.Constants.{entry_of, constant_if, flag_of, bytes_of, vector_of, convert_of, is_bad, constant_fault};
+ghost use Rattle.tables.specs.Constants.{entry_of, flag_of, bytes_of, vector_of, convert_of, constant_fault};
 
-use crate::entries::fault_unless;
+use crate::entries::refuse_unless;
 use crate::float24::{f32_of, is_float24};
-use answer::Fault;
+use answer::{Reason, Refusal};
 use binary::{ByteOffset, u8_at, u32_at};
 use bits::field;
 
@@ -46,13 +47,6 @@ pub enum Constant {
     Vector(FloatVector),
 }
 
-// What an entry gives: its constant, or none if it is bad.
-#[derive(Clone, Copy)]
-pub enum Converted {
-    Constant(Constant),
-    Bad,
-}
-
 // The fields of an entry, whatever they hold.
 pub fn constant_entry(entry: &[u8]) -> ConstantEntry
     ensures { result ≡ entry_of entry.now }
@@ -67,16 +61,6 @@ pub fn constant_entry(entry: &[u8]) -> ConstantEntry
     }
 }
 
-fn constant_if(good: bool, c: Constant) -> Converted
-    ensures { result ≡ constant_if good c }
-{
-    if good {
-        Converted::Constant(c)
-    } else {
-        Converted::Bad
-    }
-}
-
 // The byte of a word from bit `pos` on.
 fn byte_of(word: u32, pos: u32) -> u8
     ensures { result ≡ field pos 8 word }
@@ -86,20 +70,20 @@ fn byte_of(word: u32, pos: u32) -> u8
 
 // Whether an entry is a good bool, a good integer, a good vector. Told without a conversion, since the check tests every entry and converts none.
 fn is_flag(e: ConstantEntry) -> bool
-    ensures { result ≡ not (is_bad (flag_of e)) }
+    ensures { result ≡ is_some (flag_of e) }
 {
     (e.id <= 15) & (byte_of(e.x, 0) <= 1)
 }
 
 fn is_bytes(e: ConstantEntry) -> bool
-    ensures { result ≡ not (is_bad (bytes_of e)) }
+    ensures { result ≡ is_some (bytes_of e) }
 {
     e.id <= 3
 }
 
 // One word after another: joined by `&` all four are loaded as one vector, and that load waits for the four stores before it.
 fn is_vector(e: ConstantEntry) -> bool
-    ensures { result ≡ not (is_bad (vector_of e)) }
+    ensures { result ≡ is_some (vector_of e) }
 {
     if 95 < e.id {
         return false;
@@ -116,14 +100,14 @@ fn is_vector(e: ConstantEntry) -> bool
     is_float24(e.w)
 }
 
-fn flag_of(e: ConstantEntry) -> Converted
+fn flag_of(e: ConstantEntry) -> Option<Constant>
     ensures { result ≡ flag_of e }
 {
     let value = byte_of(e.x, 0);
-    constant_if(is_flag(e), Constant::Flag(value == 1))
+    is_flag(e).then_some(Constant::Flag(value == 1))
 }
 
-fn bytes_of(e: ConstantEntry) -> Converted
+fn bytes_of(e: ConstantEntry) -> Option<Constant>
     ensures { result ≡ bytes_of e }
 {
     let bytes = ByteVector {
@@ -132,10 +116,10 @@ fn bytes_of(e: ConstantEntry) -> Converted
         z: byte_of(e.x, 16),
         w: byte_of(e.x, 24),
     };
-    constant_if(is_bytes(e), Constant::Bytes(bytes))
+    is_bytes(e).then_some(Constant::Bytes(bytes))
 }
 
-fn vector_of(e: ConstantEntry) -> Converted
+fn vector_of(e: ConstantEntry) -> Option<Constant>
     ensures { result ≡ vector_of e }
 {
     // A bad word is converted too, and what it gives is dropped.
@@ -145,27 +129,27 @@ fn vector_of(e: ConstantEntry) -> Converted
         z: f32_of(e.z),
         w: f32_of(e.w),
     };
-    constant_if(is_vector(e), Constant::Vector(vector))
+    is_vector(e).then_some(Constant::Vector(vector))
 }
 
 // The constant that an entry holds.
-pub fn constant_of(e: ConstantEntry) -> Converted
+#[tactic(auto, unfolding(crate::specs::Constants::convert_of))]
+pub fn constant_of(e: ConstantEntry) -> Option<Constant>
     ensures { result ≡ convert_of e }
 {
-    let kind = e.kind;
-    match kind {
+    match e.kind {
         0 => flag_of(e),
         1 => bytes_of(e),
         2 => vector_of(e),
-        _ => Converted::Bad,
+        _ => None,
     }
 }
 
+#[tactic(auto, unfolding(crate::specs::Constants::convert_of))]
 fn is_constant(e: ConstantEntry) -> bool
-    ensures { result ≡ not (is_bad (convert_of e)) }
+    ensures { result ≡ is_some (convert_of e) }
 {
-    let kind = e.kind;
-    match kind {
+    match e.kind {
         0 => is_flag(e),
         1 => is_bytes(e),
         2 => is_vector(e),
@@ -174,8 +158,10 @@ fn is_constant(e: ConstantEntry) -> bool
 }
 
 // The fault of a constant.
-pub fn constant_fault(entry: &[u8], place: u32) -> Fault
-    ensures { result ≡ constant_fault entry.now place }
+#[tactic(auto, unfolding(crate::specs::Constants::constant_fault))]
+pub fn constant_fault(entry: &[u8], place: u32) -> Result<(), Refusal>
+    ensures { faulted result ≡ constant_fault entry.now place }
 {
-    fault_unless(is_constant(constant_entry(entry)), 18, place)
+    let good = is_constant(constant_entry(entry));
+    refuse_unless(good, Reason::BadConstant, place)
 }

@@ -1,40 +1,40 @@
 // Entries of the label, output and uniform tables: refusals 19, 20 and 21.
 ghost use Rattle.std.specs.Prelude.{◌≡◌, not};
-ghost use Rattle.answer.specs.Faults.{fault_if};
+ghost use Rattle.answer.specs.Faults.{fault_if, faulted};
+ghost use Rattle.answer.specs.Reasons.{number_of};
 ghost use Rattle.tables.specs.Entries.{label_fault, output_fault, both_in, in_one_kind, uniform_fault};
 
-use answer::Fault;
+use answer::{Reason, Refusal};
 use binary::{ByteOffset, WordAddress, u16_at, u32_at};
 
-pub(crate) fn fault_unless(good: bool, number: u32, place: u32) -> Fault
-    ensures { result ≡ fault_if (not good) number place }
+// The refusal for a reason, unless a test is met.
+pub(crate) fn refuse_unless(good: bool, reason: Reason, place: u32) -> Result<(), Refusal>
+    ensures { faulted result ≡ fault_if (not good) (number_of reason) place }
 {
-    if good {
-        Fault::Nothing
-    } else {
-        Fault::At { number, place }
-    }
+    if good { Ok(()) } else { Err(reason.at(place)) }
 }
 
 // The fault of a label, in a program of `words` words. `names_end` is what the function of that name answers for the symbol table.
-pub fn label_fault(entry: &[u8], words: u32, names_end: u64, place: u32) -> Fault
-    ensures { result ≡ label_fault entry.now words names_end place }
+#[tactic(auto, unfolding(crate::specs::Entries::label_fault, crate::specs::Entries::good_label))]
+pub fn label_fault(entry: &[u8], words: u32, names_end: u64, place: u32) -> Result<(), Refusal>
+    ensures { faulted result ≡ label_fault entry.now words names_end place }
 {
     let address = WordAddress(u32_at(entry, ByteOffset(0x04)));
     let name = ByteOffset(u32_at(entry, ByteOffset(0x0c)) as u64);
     let good = (address.0 <= words) & (name.0 < names_end);
-    fault_unless(good, 19, place)
+    refuse_unless(good, Reason::BadLabel, place)
 }
 
 // The fault of an output.
-pub fn output_fault(entry: &[u8], place: u32) -> Fault
-    ensures { result ≡ output_fault entry.now place }
+#[tactic(auto, unfolding(crate::specs::Entries::output_fault, crate::specs::Entries::good_output))]
+pub fn output_fault(entry: &[u8], place: u32) -> Result<(), Refusal>
+    ensures { faulted result ≡ output_fault entry.now place }
 {
     let kind = u16_at(entry, ByteOffset(0));
     let register = u16_at(entry, ByteOffset(2));
     let mask = u16_at(entry, ByteOffset(4));
     let good = ((kind <= 6) | (kind == 8)) & (register <= 15) & (1 <= mask) & (mask <= 15);
-    fault_unless(good, 20, place)
+    refuse_unless(good, Reason::BadOutput, place)
 }
 
 fn both_in(low: u16, high: u16, start: u16, end: u16) -> bool
@@ -44,6 +44,7 @@ fn both_in(low: u16, high: u16, start: u16, end: u16) -> bool
 }
 
 // Whether both registers are vertex inputs, or both float, integer or bool uniforms.
+#[tactic(auto, unfolding(crate::specs::Entries::in_one_kind))]
 fn in_one_kind(start: u16, end: u16) -> bool
     ensures { result ≡ in_one_kind start end }
 {
@@ -54,12 +55,13 @@ fn in_one_kind(start: u16, end: u16) -> bool
 }
 
 // The fault of a uniform. `names_end` is as for a label.
-pub fn uniform_fault(entry: &[u8], names_end: u64, place: u32) -> Fault
-    ensures { result ≡ uniform_fault entry.now names_end place }
+#[tactic(auto, unfolding(crate::specs::Entries::uniform_fault, crate::specs::Entries::good_uniform))]
+pub fn uniform_fault(entry: &[u8], names_end: u64, place: u32) -> Result<(), Refusal>
+    ensures { faulted result ≡ uniform_fault entry.now names_end place }
 {
     let name = ByteOffset(u32_at(entry, ByteOffset(0)) as u64);
     let start = u16_at(entry, ByteOffset(4));
     let end = u16_at(entry, ByteOffset(6));
     let good = (start <= end) & in_one_kind(start, end) & (name.0 < names_end);
-    fault_unless(good, 21, place)
+    refuse_unless(good, Reason::BadUniform, place)
 }

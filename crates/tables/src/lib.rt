@@ -10,8 +10,7 @@ mod float24;
 mod names;
 
 pub use constants::{
-    ByteVector, Constant, ConstantEntry, Converted, FloatVector, constant_entry, constant_fault,
-    constant_of,
+    ByteVector, Constant, ConstantEntry, FloatVector, constant_entry, constant_fault, constant_of,
 };
 pub use entries::{label_fault, output_fault, uniform_fault};
 pub use names::names_end;

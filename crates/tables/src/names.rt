@@ -7,12 +7,8 @@ ghost use Rattle.tables.specs.Names.{names_end};
 pub fn names_end(symbols: &[u8]) -> u64
     ensures { result ≡ names_end symbols.now }
 {
-    let mut end = symbols.len();
-    while 0 < end {
-        if symbols[end - 1] == 0 {
-            return end as u64;
-        }
-        end -= 1;
+    match symbols.iter().rposition(|&b| b == 0) {
+        Some(last) => last as u64 + 1,
+        None => 0,
     }
-    0
 }

@@ -1,4 +1,4 @@
 pub mod Trials
-pub mod Putting
+pub mod Digits
 pub mod Records
 pub mod Fits

@@ -7,10 +7,9 @@ use lib.ListN.{replicate}
 use Rattle.binary.specs.Addresses.{word_address}
 use Rattle.instruction.specs.Operations.{operations, format_of}
 use Rattle.instruction.specs.Words.{decode_of}
-use Rattle.text.specs.Operands.{operator_text, target_text, condition_text, one_source, two_sources, three_sources, compare_text, of_format2, of_format3, of_format4, operands_in}
 use Rattle.text.specs.Pieces.{bytes, digits, decimal, lettered, labelled, name_text}
-use Rattle.text.specs.Records.{record_of, operation_text, line_text, head_text, counts_text, report_text, refused_text}
-use Rattle.text.specs.Registers.{register_text, sign_text, index_text, selectors_text, source_text, written_text, mask_text, written_register, destination_text}
+use Rattle.text.specs.Records.{record_of, operation_text, line_text, report_text, refused_text}
+use Rattle.text.specs.Registers.{source_text, destination_text}
 use Rattle.verifier.specs.declared.verdict.Report.{Report}
 
 -- a word, the ID of its descriptor and that descriptor, and the text of its name and operands
@@ -60,12 +59,12 @@ trials =
     []
 
 written : map (λ t. operation_text (replicate t.id 0 ++ t.descriptor ∷ []) (decode_of t.word)) trials ≡ map (λ t. bytes t.text) trials
-unfolding trials trial operation_text operands_in operator_text target_text condition_text one_source two_sources three_sources compare_text of_format2 of_format3 of_format4 register_text sign_text index_text selectors_text source_text written_text mask_text written_register destination_text digits decimal lettered name_text decode_of format_of operations
+unfolding trials trial source_text destination_text digits decimal lettered name_text decode_of format_of operations
 written = refl
 
 -- a whole record: the example's second line, at another index
 lines : record_of 80 (line_text 0x1fa 0x9cc00c00 []) ≡ bytes "01FA 9CC00C00 IFU     b3 0003+00                                               \n"
-unfolding line_text operation_text operands_in of_format3 target_text digits decimal lettered name_text decode_of format_of operations
+unfolding line_text digits decimal lettered name_text decode_of format_of operations
 lines = refl
 
 -- the example's report, and one with nine different numbers
@@ -74,7 +73,7 @@ report t m e i o c w n = record { shader_type = t; main = word_address m; endmai
 
 reports : report_text 0 (report 0 0 5 1 1 0 5 5) ∷ report_text 9 (report 1 3 31 16 11 2 75 2105150) ∷ []
     ≡ bytes "exe 00 type 0 main 0000 end 0005 in 01 out 01 con 0000 words 0005 most 0000005" ∷ bytes "exe 09 type 1 main 0003 end 0031 in 16 out 11 con 0002 words 0075 most 2105150" ∷ []
-unfolding report report_text head_text counts_text labelled digits
+unfolding report report_text labelled digits
 reports = refl
 
 -- a refusal at executable 1

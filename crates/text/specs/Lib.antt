@@ -1,5 +1,4 @@
 pub mod Operands
 pub mod Pieces
-pub mod Put
 pub mod Records
 pub mod Registers

@@ -12,53 +12,53 @@ use Rattle.text.specs.Registers.{source_text, destination_text}
 abbrev pub operator_names : List ℕ
 operator_names = bytes "EQNELTLEGTGE????"
 
-unfoldable pub operator_text : ℕ → List ℕ
+abbrev pub operator_text : ℕ → List ℕ
 operator_text k = get_or operator_names (2 * (k % 8)) 0 ∷ [] ++ get_or operator_names (2 * (k % 8) + 1) 0 ∷ []
 
 -- 'Targets: DST as 4 hex, `+`, NUM as 2 hex for IF and CALL'
-unfoldable pub target_text : ℕ → ℕ → List ℕ
+abbrev pub target_text : ℕ → ℕ → List ℕ
 target_text dst num = digits 16 4 dst ++ bytes "+" ++ digits 16 2 num
 
 -- 'the condition: `x1|y0`, `x1&y0`, `x1`, `y0` with the reference bits'; 'CONDOP 0 to 3: or, and, X, Y'
-unfoldable pub condition_text : ℕ → ℕ → ℕ → List ℕ
+abbrev pub condition_text : ℕ → ℕ → ℕ → List ℕ
 condition_text condop refy refx =
     cond (eqb condop 2) (lettered (code "x") refx)
     (cond (eqb condop 3) (lettered (code "y") refy) (lettered (code "x") refx ++ cond (eqb condop 0) (code "|") (code "&") ∷ [] ++ lettered (code "y") refy))
 
 -- 'Destination first, then sources in order'; d is the descriptor's word
-unfoldable pub one_source : ℕ → ℕ → ℕ → ℕ → ℕ → List ℕ
+abbrev pub one_source : ℕ → ℕ → ℕ → ℕ → ℕ → List ℕ
 one_source op dst d src1 idx1 = destination_text op dst (mask_of d) ++ bytes "," ++ source_text (source1_of d) src1 idx1
 
-unfoldable pub two_sources : ℕ → ℕ → ℕ → ℕ → ℕ → ℕ → ℕ → List ℕ
+abbrev pub two_sources : ℕ → ℕ → ℕ → ℕ → ℕ → ℕ → ℕ → List ℕ
 two_sources op dst d src1 idx1 src2 idx2 = one_source op dst d src1 idx1 ++ bytes "," ++ source_text (source2_of d) src2 idx2
 
-unfoldable pub three_sources : ℕ → ℕ → ℕ → ℕ → ℕ → ℕ → ℕ → ℕ → List ℕ
+abbrev pub three_sources : ℕ → ℕ → ℕ → ℕ → ℕ → ℕ → ℕ → ℕ → List ℕ
 three_sources op dst d src1 src2 idx2 src3 idx3 = two_sources op dst d src1 0 src2 idx2 ++ bytes "," ++ source_text (source3_of d) src3 idx3
 
 -- 'CMP: source 1, X operator, Y operator, source 2'
-unfoldable pub compare_text : ℕ → ℕ → ℕ → ℕ → ℕ → ℕ → List ℕ
+abbrev pub compare_text : ℕ → ℕ → ℕ → ℕ → ℕ → ℕ → List ℕ
 compare_text d src1 idx1 cmpx cmpy src2 =
     source_text (source1_of d) src1 idx1 ++ bytes "," ++ operator_text cmpx ++ bytes "," ++ operator_text cmpy ++ bytes "," ++ source_text (source2_of d) src2 0
 
 -- CALL: its target. 'BREAKC shows its condition'. JMPC: condition and DST alone. CALLC, IFC: condition and target
-unfoldable pub of_format2 : ℕ → ℕ → ℕ → ℕ → ℕ → ℕ → List ℕ
+abbrev pub of_format2 : ℕ → ℕ → ℕ → ℕ → ℕ → ℕ → List ℕ
 of_format2 op num dst condop refy refx =
     let condition = condition_text condop refy refx in
     cond (eqb op 0x24) (target_text dst num)
     (cond (eqb op 0x23) condition (cond (eqb op 0x2c) (condition ++ bytes " " ++ digits 16 4 dst) (condition ++ bytes " " ++ target_text dst num)))
 
 -- '`b` or `i` and the register in decimal'; 'DST alone for LOOP and JMP'. CALLU, IFU: the target
-unfoldable pub of_format3 : ℕ → ℕ → ℕ → ℕ → List ℕ
+abbrev pub of_format3 : ℕ → ℕ → ℕ → ℕ → List ℕ
 of_format3 op num dst id =
     let register = lettered (cond (eqb op 0x29) (code "i") (code "b")) id in
     cond (eqb op 0x29 || eqb op 0x2d) (register ++ bytes " " ++ digits 16 4 dst) (register ++ bytes " " ++ target_text dst num)
 
 -- 'SETEMIT: `v2 p1 w0`'
-unfoldable pub of_format4 : ℕ → ℕ → ℕ → List ℕ
+abbrev pub of_format4 : ℕ → ℕ → ℕ → List ℕ
 of_format4 winding primemit vtxid = lettered (code "v") vtxid ++ bytes " " ++ lettered (code "p") primemit ++ bytes " " ++ lettered (code "w") winding
 
 -- 'on the source that IDX belongs to'; 'Format 0: none'. ds are the descriptors; one that is not there reads as zeros
-unfoldable pub operands_in : List ℕ → Fields → List ℕ
+abbrev pub operands_in : List ℕ → Fields → List ℕ
 operands_in ds (Format0 op rest) = []
 operands_in ds (Format1 op desc src2 src1 idx1 dst) = two_sources op dst (get_or ds desc 0) src1 idx1 src2 0
 operands_in ds (Format1i op desc src2 src1 idx2 dst) = two_sources op dst (get_or ds desc 0) src1 0 src2 idx2

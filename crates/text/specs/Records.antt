@@ -13,7 +13,7 @@ abbrev pub record_of : ℕ → List ℕ → List ℕ
 record_of width p = padded (width - 1) p ++ 0x0a ∷ []
 
 -- columns 14-20 the name, 22-78 the operands; an unknown word is in no accepted library, and has neither
-unfoldable pub operation_text : List ℕ → Answer Fields → List ℕ
+abbrev pub operation_text : List ℕ → Answer Fields → List ℕ
 operation_text ds (given f) = name_text (number_of f) ++ bytes " " ++ operands_in ds f
 operation_text ds (refused n p) = []
 
@@ -22,11 +22,11 @@ unfoldable pub line_text : ℕ → ℕ → List ℕ → List ℕ
 line_text index word ds = digits 16 4 index ++ bytes " " ++ digits 16 8 word ++ bytes " " ++ operation_text ds (decode_of word)
 
 -- what an executable is, and what was counted of it
-unfoldable pub head_text : ℕ → Report → List ℕ
+abbrev pub head_text : ℕ → Report → List ℕ
 head_text index r =
     labelled (bytes "exe ") 2 index ++ labelled (bytes " type ") 1 r.shader_type ++ labelled (bytes " main ") 4 r.main.0 ++ labelled (bytes " end ") 4 r.endmain.0
 
-unfoldable pub counts_text : Report → List ℕ
+abbrev pub counts_text : Report → List ℕ
 counts_text r =
     labelled (bytes " in ") 2 r.inputs ++ labelled (bytes " out ") 2 r.outputs ++ labelled (bytes " con ") 4 r.constants
     ++ labelled (bytes " words ") 4 r.words ++ labelled (bytes " most ") 7 r.total

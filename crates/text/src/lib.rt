@@ -2,8 +2,8 @@
 
 #![tactic(auto)]
 
+mod line;
 mod operands;
-mod piece;
 mod record;
 mod registers;
 

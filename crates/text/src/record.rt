@@ -1,13 +1,13 @@
 // Records: a text, spaces after it, and a line feed in the last column.
-ghost use Rattle.std.specs.Prelude.{◌≡◌, [], ◌+◌, ◌≤◌, length};
+#![tactic(auto, using(crate::proofs::Fits::texts, crate::proofs::Records::no_name), unfolding(crate::specs::Records::line_text, crate::specs::Records::report_text, crate::specs::Records::refused_text))]
+
+ghost use Rattle.std.specs.Prelude.{◌≡◌, ◌++◌, ◌+◌, ◌≤◌, length};
 ghost use Rattle.instruction.specs.Words.{number_of, decode_of};
 ghost use Rattle.text.specs.Pieces.{name_text};
-ghost use Rattle.text.specs.Put.{Put};
 ghost use Rattle.text.specs.Records.{record_of, operation_text, line_text, head_text, counts_text, report_text, refused_text};
 
-use crate::operands::put_operands;
-use crate::piece::{put_byte, put_digits, put_labelled, put_text};
-use instruction::{Decoded, Fields, decode};
+use crate::line::Line;
+use instruction::{Fields, decode};
 use verifier::Report;
 
 // The name of each operation, by its number, in seven columns.
@@ -18,108 +18,98 @@ fn number_of(fields: Fields) -> u32
     ensures { result ≡ number_of fields }
 {
     match fields {
-        Fields::Format0(op, _) => op,
-        Fields::Format1(op, _, _, _, _, _) => op,
-        Fields::Format1i(op, _, _, _, _, _) => op,
-        Fields::Format1u(op, _, _, _, _, _) => op,
-        Fields::Format1c(op, _, _, _, _, _, _) => op,
-        Fields::Format2(op, _, _, _, _, _, _) => op,
-        Fields::Format3(op, _, _, _, _) => op,
-        Fields::Format4(op, _, _, _, _) => op,
-        Fields::Format5(op, _, _, _, _, _, _) => op,
-        Fields::Format5i(op, _, _, _, _, _, _) => op,
+        Fields::Format0(op, ..)
+        | Fields::Format1(op, ..)
+        | Fields::Format1i(op, ..)
+        | Fields::Format1u(op, ..)
+        | Fields::Format1c(op, ..)
+        | Fields::Format2(op, ..)
+        | Fields::Format3(op, ..)
+        | Fields::Format4(op, ..)
+        | Fields::Format5(op, ..)
+        | Fields::Format5i(op, ..) => op,
     }
 }
 
-fn put_name(out: &mut [u8], at: usize, op: u32) -> usize
-    requires { at + 7 ≤ length out.old }
-    ensures { Put (name_text op) 7 at result out.old out.new }
-{
-    if 64 <= op {
-        return put_text(out, at, b"       ");
-    }
-    let start = op as usize * 7;
-    let end = start + 7;
-    let names = NAMES;
-    put_text(out, at, &names[start..end])
-}
-
-// The name and the operands of a word; nothing for an unknown one.
-fn put_operation(out: &mut [u8], at: usize, word: u32, descriptors: &[u32]) -> usize
-    requires { at + 64 ≤ length out.old }
-    ensures { Put (operation_text descriptors.now (decode_of word)) 64 at result out.old out.new }
-{
-    match decode(word) {
-        Decoded::Known(fields) => {
-            let at1 = put_name(out, at, number_of(fields));
-            let at2 = put_byte(out, at1, b' ');
-            put_operands(out, at2, fields, descriptors)
+impl Line {
+    fn put_name(&mut self, op: u32)
+        requires { length self.old + 7 ≤ 79 }
+        ensures { self.new ≡ self.old ++ name_text op }
+    {
+        if op < 64 {
+            let start = op as usize * 7;
+            self.put_text(&NAMES[start..start + 7]);
+        } else {
+            self.put_text(b"       ");
         }
-        Decoded::Unknown => at,
     }
-}
 
-fn blank() -> [u8; 80]
-    ensures { result ≡ record_of 80 [] }
-{
-    let mut out = [b' '; 80];
-    out[79] = b'\n';
-    out
+    // The name and the operands of a word; nothing for an unknown one.
+    fn put_operation(&mut self, word: u32, descriptors: &[u32])
+        requires { length self.old + 64 ≤ 79 }
+        ensures { self.new ≡ self.old ++ operation_text descriptors.now (decode_of word) }
+    {
+        if let Ok(fields) = decode(word) {
+            self.put_name(number_of(fields));
+            self.put_byte(b' ');
+            self.put_operands(fields, descriptors);
+        }
+    }
+
+    // What an executable is.
+    fn put_head(&mut self, index: u32, r: Report)
+        requires { length self.old + 32 ≤ 79 }
+        ensures { self.new ≡ self.old ++ head_text index r }
+    {
+        self.put_labelled::<2>(b"exe ", index);
+        self.put_labelled::<1>(b" type ", u32::from(r.shader_type));
+        self.put_labelled::<4>(b" main ", r.main.0);
+        self.put_labelled::<4>(b" end ", r.endmain.0);
+    }
+
+    // What was counted of it.
+    fn put_counts(&mut self, r: Report)
+        requires { length self.old + 46 ≤ 79 }
+        ensures { self.new ≡ self.old ++ counts_text r }
+    {
+        self.put_labelled::<2>(b" in ", r.inputs);
+        self.put_labelled::<2>(b" out ", r.outputs);
+        self.put_labelled::<4>(b" con ", r.constants);
+        self.put_labelled::<4>(b" words ", r.words);
+        self.put_labelled::<7>(b" most ", r.total);
+    }
 }
 
 // A line of the listing: the word at an index, with the library's descriptors.
 pub fn listing_line(index: u32, word: u32, descriptors: &[u32]) -> [u8; 80]
     ensures { result ≡ record_of 80 (line_text index word descriptors.now) }
 {
-    let mut out = blank();
-    let at1 = put_digits(&mut out, 0, index, 16, 4);
-    let at2 = put_byte(&mut out, at1, b' ');
-    let at3 = put_digits(&mut out, at2, word, 16, 8);
-    let at4 = put_byte(&mut out, at3, b' ');
-    put_operation(&mut out, at4, word, descriptors);
-    out
-}
-
-// What an executable is.
-fn put_head(out: &mut [u8], at: usize, index: u32, r: Report) -> usize
-    requires { at + 32 ≤ length out.old }
-    ensures { Put (head_text index r) 32 at result out.old out.new }
-{
-    let at1 = put_labelled(out, at, b"exe ", index, 2);
-    let at2 = put_labelled(out, at1, b" type ", r.shader_type as u32, 1);
-    let at3 = put_labelled(out, at2, b" main ", r.main.0, 4);
-    put_labelled(out, at3, b" end ", r.endmain.0, 4)
-}
-
-// What was counted of it.
-fn put_counts(out: &mut [u8], at: usize, r: Report) -> usize
-    requires { at + 46 ≤ length out.old }
-    ensures { Put (counts_text r) 46 at result out.old out.new }
-{
-    let at1 = put_labelled(out, at, b" in ", r.inputs, 2);
-    let at2 = put_labelled(out, at1, b" out ", r.outputs, 2);
-    let at3 = put_labelled(out, at2, b" con ", r.constants, 4);
-    let at4 = put_labelled(out, at3, b" words ", r.words, 4);
-    put_labelled(out, at4, b" most ", r.total, 7)
+    let mut line = Line::new();
+    line.put_digits::<16, 4>(index);
+    line.put_byte(b' ');
+    line.put_digits::<16, 8>(word);
+    line.put_byte(b' ');
+    line.put_operation(word, descriptors);
+    line.finish()
 }
 
 // A line of the report: that of an executable.
 pub fn report_line(index: u32, r: Report) -> [u8; 80]
     ensures { result ≡ record_of 80 (report_text index r) }
 {
-    let mut out = blank();
-    let at1 = put_head(&mut out, 0, index, r);
-    put_counts(&mut out, at1, r);
-    out
+    let mut line = Line::new();
+    line.put_head(index, r);
+    line.put_counts(r);
+    line.finish()
 }
 
 // The record of a refused file.
 pub fn refused_line(number: u32, place: u32) -> [u8; 80]
     ensures { result ≡ record_of 80 (refused_text number place) }
 {
-    let mut out = blank();
-    let at1 = put_labelled(&mut out, 0, b"refused ", number, 2);
-    let at2 = put_byte(&mut out, at1, b' ');
-    put_digits(&mut out, at2, place, 16, 8);
-    out
+    let mut line = Line::new();
+    line.put_labelled::<2>(b"refused ", number);
+    line.put_byte(b' ');
+    line.put_digits::<16, 8>(place);
+    line.finish()
 }

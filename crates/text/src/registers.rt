@@ -1,124 +1,142 @@
 // The text of registers: destinations and sources.
-ghost use Rattle.std.specs.Prelude.{◌≡◌, [], ◌∷◌, ◌+◌, ◌≤◌, ◌<◌, length};
-ghost use Rattle.text.specs.Put.{Put};
+#![tactic(auto, using(crate::proofs::Fits::texts), unfolding(crate::specs::Registers::source_text, crate::specs::Registers::destination_text))]
+
+ghost use Rattle.std.specs.Prelude.{◌≡◌, ◌++◌, ◌+◌, ◌≤◌, length};
 ghost use Rattle.text.specs.Registers.{component, register_text, sign_text, index_text, selectors_text, source_text, written_text, mask_text, written_register, destination_text};
 
-use crate::piece::{put_byte, put_lettered, put_text};
+use crate::line::Line;
 use instruction::Source;
 
 const COMPONENTS: [u8; 4] = *b"xyzw";
 
-fn put_register(out: &mut [u8], at: usize, register: u32) -> usize
-    requires { at + 3 ≤ length out.old }
-    ensures { Put (register_text register) 3 at result out.old out.new }
-{
-    if register < 0x10 {
-        return put_lettered(out, at, b'v', register);
-    }
-    if register < 0x20 {
-        return put_lettered(out, at, b'r', register - 0x10);
-    }
-    put_lettered(out, at, b'c', register - 0x20)
+// A source register, and which of the index registers is added to its number; 0 is none.
+#[derive(Clone, Copy)]
+pub(crate) struct Register {
+    pub(crate) number: u32,
+    pub(crate) index: u32,
 }
 
-fn put_sign(out: &mut [u8], at: usize, negated: u32) -> usize
-    requires { at + 1 ≤ length out.old }
-    ensures { Put (sign_text negated) 1 at result out.old out.new }
+pub(crate) fn indexed(number: u32, index: u32) -> Register
+    ensures number { result.number ≡ number }
+    ensures index { result.index ≡ index }
 {
-    if negated == 0 {
-        return at;
-    }
-    put_byte(out, at, b'-')
+    Register { number, index }
 }
 
-fn put_index(out: &mut [u8], at: usize, idx: u32) -> usize
-    requires { at + 6 ≤ length out.old }
-    ensures { Put (index_text idx) 6 at result out.old out.new }
+pub(crate) fn plain(number: u32) -> Register
+    ensures number { result.number ≡ number }
+    ensures index { result.index ≡ 0 }
 {
-    if idx == 1 {
-        return put_text(out, at, b"[a0.x]");
-    }
-    if idx == 2 {
-        return put_text(out, at, b"[a0.y]");
-    }
-    if idx == 3 {
-        return put_text(out, at, b"[aL]");
-    }
-    at
+    indexed(number, 0)
 }
 
-fn put_component(out: &mut [u8], at: usize, k: u32) -> usize
-    requires { at + 1 ≤ length out.old }
-    ensures { Put (component k ∷ []) 1 at result out.old out.new }
+fn component(k: u32) -> u8
+    ensures { result ≡ component k }
 {
-    let i = (k % 4) as usize;
-    put_byte(out, at, COMPONENTS[i])
+    COMPONENTS[(k % 4) as usize]
 }
 
-fn put_selectors(out: &mut [u8], at: usize, s: Source) -> usize
-    requires { at + 5 ≤ length out.old }
-    ensures { Put (selectors_text s) 5 at result out.old out.new }
-{
-    let at1 = put_byte(out, at, b'.');
-    let at2 = put_component(out, at1, s.component0);
-    let at3 = put_component(out, at2, s.component1);
-    let at4 = put_component(out, at3, s.component2);
-    put_component(out, at4, s.component3)
-}
-
-pub(crate) fn put_source(out: &mut [u8], at: usize, s: Source, register: u32, idx: u32) -> usize
-    requires { at + 15 ≤ length out.old }
-    ensures { Put (source_text s register idx) 15 at result out.old out.new }
-{
-    let at1 = put_sign(out, at, s.negated);
-    let at2 = put_register(out, at1, register);
-    let at3 = put_index(out, at2, idx);
-    put_selectors(out, at3, s)
-}
-
-// A component, if its bit is set.
-fn put_written(out: &mut [u8], at: usize, bit: u32, k: u32) -> usize
-    requires { at + 1 ≤ length out.old }
-    ensures { Put (written_text bit k) 1 at result out.old out.new }
-{
-    if bit == 0 {
-        return at;
+impl Line {
+    // A source's register, by its number among all of them: inputs, temporaries, constants.
+    fn put_register(&mut self, register: u32)
+        requires { length self.old + 3 ≤ 79 }
+        ensures { self.new ≡ self.old ++ register_text register }
+    {
+        if register < 0x10 {
+            self.put_lettered(b'v', register);
+        } else if register < 0x20 {
+            self.put_lettered(b'r', register - 0x10);
+        } else {
+            self.put_lettered(b'c', register - 0x20);
+        }
     }
-    put_component(out, at, k)
-}
 
-fn put_mask(out: &mut [u8], at: usize, mask: u32) -> usize
-    requires { at + 4 ≤ length out.old }
-    ensures { Put (mask_text mask) 4 at result out.old out.new }
-{
-    if mask % 16 == 0 {
-        return put_byte(out, at, b'_');
+    fn put_sign(&mut self, negated: u32)
+        requires { length self.old + 1 ≤ 79 }
+        ensures { self.new ≡ self.old ++ sign_text negated }
+    {
+        if negated != 0 {
+            self.put_byte(b'-');
+        }
     }
-    let at1 = put_written(out, at, mask / 8 % 2, 0);
-    let at2 = put_written(out, at1, mask / 4 % 2, 1);
-    let at3 = put_written(out, at2, mask / 2 % 2, 2);
-    put_written(out, at3, mask % 2, 3)
-}
 
-// What is written: MOVA writes the address register.
-fn put_written_register(out: &mut [u8], at: usize, op: u32, register: u32) -> usize
-    requires { at + 3 ≤ length out.old }
-    ensures { Put (written_register op register) 3 at result out.old out.new }
-{
-    if op == 0x12 {
-        return put_lettered(out, at, b'a', 0);
+    fn put_index(&mut self, idx: u32)
+        requires { length self.old + 6 ≤ 79 }
+        ensures { self.new ≡ self.old ++ index_text idx }
+    {
+        match idx {
+            1 => self.put_text(b"[a0.x]"),
+            2 => self.put_text(b"[a0.y]"),
+            3 => self.put_text(b"[aL]"),
+            _ => {}
+        }
     }
-    if register < 0x10 {
-        return put_lettered(out, at, b'o', register);
-    }
-    put_lettered(out, at, b'r', register - 0x10)
-}
 
-pub(crate) fn put_destination(out: &mut [u8], at: usize, op: u32, register: u32, mask: u32) -> usize
-    requires { at + 8 ≤ length out.old }
-    ensures { Put (destination_text op register mask) 8 at result out.old out.new }
-{
-    let at1 = put_written_register(out, at, op, register);
-    let at2 = put_byte(out, at1, b'.');
-    put_mask(out, at2, mask)
+    fn put_selectors(&mut self, s: Source)
+        requires { length self.old + 5 ≤ 79 }
+        ensures { self.new ≡ self.old ++ selectors_text s }
+    {
+        self.put_byte(b'.');
+        self.put_byte(component(s.component0));
+        self.put_byte(component(s.component1));
+        self.put_byte(component(s.component2));
+        self.put_byte(component(s.component3));
+    }
+
+    pub(crate) fn put_source(&mut self, s: Source, register: Register)
+        requires { length self.old + 15 ≤ 79 }
+        ensures { self.new ≡ self.old ++ source_text s register.number register.index }
+    {
+        self.put_sign(s.negated);
+        self.put_register(register.number);
+        self.put_index(register.index);
+        self.put_selectors(s);
+    }
+
+    // A component, if its bit is set.
+    fn put_written(&mut self, bit: u32, k: u32)
+        requires { length self.old + 1 ≤ 79 }
+        ensures { self.new ≡ self.old ++ written_text bit k }
+    {
+        if bit != 0 {
+            self.put_byte(component(k));
+        }
+    }
+
+    fn put_mask(&mut self, mask: u32)
+        requires { length self.old + 4 ≤ 79 }
+        ensures { self.new ≡ self.old ++ mask_text mask }
+    {
+        if mask % 16 == 0 {
+            self.put_byte(b'_');
+        } else {
+            self.put_written(mask / 8 % 2, 0);
+            self.put_written(mask / 4 % 2, 1);
+            self.put_written(mask / 2 % 2, 2);
+            self.put_written(mask % 2, 3);
+        }
+    }
+
+    // What is written: MOVA writes the address register.
+    fn put_written_register(&mut self, op: u32, register: u32)
+        requires { length self.old + 3 ≤ 79 }
+        ensures { self.new ≡ self.old ++ written_register op register }
+    {
+        if op == 0x12 {
+            self.put_lettered(b'a', 0);
+        } else if register < 0x10 {
+            self.put_lettered(b'o', register);
+        } else {
+            self.put_lettered(b'r', register - 0x10);
+        }
+    }
+
+    pub(crate) fn put_destination(&mut self, op: u32, register: u32, mask: u32)
+        requires { length self.old + 8 ≤ 79 }
+        ensures { self.new ≡ self.old ++ destination_text op register mask }
+    {
+        self.put_written_register(op, register);
+        self.put_byte(b'.');
+        self.put_mask(mask);
+    }
 }

@@ -1,7 +1,8 @@
 // The lines of a library.
+use answer::Refusal;
 use std::io;
 use std::io::Write;
-use verifier::{Checked, Judged, Report};
+use verifier::{Judged, Report};
 
 fn write_report<W: Write>(output: &mut W, index: u32, report: Report) -> io::Result<()> {
     writeln!(
@@ -19,28 +20,21 @@ fn write_report<W: Write>(output: &mut W, index: u32, report: Report) -> io::Res
 }
 
 // An accepted library has at most 16 executables. The trial does not lean on that, so that a wrong count shows in the lines.
-fn write_reports<W: Write>(
-    output: &mut W,
-    executables: u32,
-    reports: [Report; 16],
-) -> io::Result<()> {
-    for index in 0..16 {
-        if index < executables {
-            let i = index as usize;
-            write_report(output, index, reports[i])?;
-        }
+fn write_reports<W: Write>(output: &mut W, judged: Judged) -> io::Result<()> {
+    let executables = judged.library.executables;
+    writeln!(output, "accepted {executables}")?;
+    for (index, report) in (0..executables).zip(judged.reports) {
+        write_report(output, index, report)?;
     }
     Ok(())
 }
 
-pub(crate) fn write_judged<W: Write>(output: &mut W, judged: Judged) -> io::Result<()> {
-    let verdict = judged.verdict;
-    match verdict {
-        Checked::Accepted(library) => {
-            let executables = library.executables;
-            writeln!(output, "accepted {executables}")?;
-            write_reports(output, executables, judged.reports)
-        }
-        Checked::Refused { number, place } => writeln!(output, "refused {number} {place:08x}"),
+pub(crate) fn write_judged<W: Write>(
+    output: &mut W,
+    judged: Result<Judged, Refusal>,
+) -> io::Result<()> {
+    match judged {
+        Ok(judged) => write_reports(output, judged),
+        Err(refusal) => writeln!(output, "{refusal}"),
     }
 }

@@ -34,13 +34,3 @@ pub(crate) fn write_constant<W: Write>(
         Constant::Vector(v) => write_vector(output, v),
     }
 }
-
-pub(crate) fn write_refused<W: Write>(
-    output: &mut W,
-    executable: u32,
-    n: u32,
-    number: u32,
-    place: u32,
-) -> io::Result<()> {
-    writeln!(output, "{executable} {n} refused {number} {place:08x}")
-}

@@ -5,22 +5,22 @@
 
 mod lines;
 
-use lines::{write_constant, write_refused};
+use lines::write_constant;
 use std::io;
-use std::io::{Read, Write};
-use stream::{Next, next_library};
-use verifier::{Reported, report_of};
-use walk::{Handed, constant};
+use std::io::Write;
+use stream::each_library;
+use verifier::report_of;
+use walk::constant;
 
 // Writes a constant, and answers whether it is there.
 fn write_next<W: Write>(output: &mut W, file: &[u8], executable: u32, n: u32) -> io::Result<bool> {
     match constant(file, executable, n) {
-        Handed::Constant(c) => {
-            write_constant(output, executable, n, c)?;
+        Ok(constant) => {
+            write_constant(output, executable, n, constant)?;
             Ok(true)
         }
-        Handed::Refused { number, place } => {
-            write_refused(output, executable, n, number, place)?;
+        Err(refusal) => {
+            writeln!(output, "{executable} {n} {refusal}")?;
             Ok(false)
         }
     }
@@ -36,42 +36,23 @@ fn write_constants<W: Write>(output: &mut W, file: &[u8], executable: u32) -> io
     Ok(())
 }
 
-// Whether the executable is there; then its constants are written.
-fn write_executable<W: Write>(output: &mut W, file: &[u8], executable: u32) -> io::Result<bool> {
-    let Reported::Given(_) = report_of(file, executable) else {
-        return Ok(false);
-    };
-    write_constants(output, file, executable)?;
-    Ok(true)
-}
-
+// The constants of one executable after another, and then the refusal of the first that is not there.
 fn write_executables<W: Write>(output: &mut W, file: &[u8]) -> io::Result<()> {
-    let mut executable = 0;
-    while executable < 16 && write_executable(output, file, executable)? {
-        executable += 1;
-    }
-    write_next(output, file, executable, 0)?;
-    Ok(())
-}
-
-// Writes the constants of one library, and answers whether there was one.
-fn write_next_library<R: Read, W: Write>(input: &mut R, output: &mut W) -> io::Result<bool> {
-    let mut bytes = [0u8; 65537];
-    let Next::Library(kept) = next_library(input, output, &mut bytes)? else {
-        return Ok(false);
-    };
-    write_executables(output, &bytes[..kept])?;
-    Ok(true)
-}
-
-// A proved loop has to end, and nothing says that the input does. So the loop counts its turns, up to a
-// number that no run uses up.
-fn main(rt: HostRuntime) -> io::Result<()> {
-    let (mut input, mut output) = (rt.stdin(), rt.stdout());
-    for _ in 0..u64::MAX {
-        if !write_next_library(&mut input, &mut output)? {
+    let mut executables = 0;
+    for executable in 0..16 {
+        if report_of(file, executable).is_err() {
             break;
         }
+        write_constants(output, file, executable)?;
+        executables = executable + 1;
     }
+    write_next(output, file, executables, 0)?;
     Ok(())
+}
+
+fn main(rt: HostRuntime) -> io::Result<()> {
+    each_library(&mut rt.stdin(), &mut rt.stdout(), |_, output, file| {
+        write_executables(output, file)?;
+        Ok(true)
+    })
 }

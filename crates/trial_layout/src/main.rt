@@ -2,52 +2,38 @@
 
 #![tactic(auto)]
 
-use answer::Fault;
-use container::{Limits, Table, executable_count, executable_fault, library_fault, program_of};
+use answer::Refusal;
+use container::{Limits, executable_count, executable_fault, library_fault, program_of};
 use inputs::{argument, open_file, read_what_comes};
 use std::env::Env;
 use std::io;
 use std::io::{Read, Write};
 use std::rt::Files;
 
-// The first fault of the executables that the header counts, of which there are at most 16 where this is asked.
-fn fault_of_executables(file: &[u8], words: Table) -> Fault {
-    let n = executable_count(file);
-    for index in 0..16 {
-        if index < n {
-            match executable_fault(file, words, index, 1, index * 65536) {
-                Fault::At { number, place } => return Fault::At { number, place },
-                Fault::Nothing => {}
-            }
-        }
-    }
-    Fault::Nothing
-}
-
-fn first_fault(file: &[u8]) -> Fault {
+// The first fault of the DVLP, and of the executables that the header counts, of which there are at most 16 then.
+fn first_fault(file: &[u8]) -> Result<(), Refusal> {
     let limits = Limits {
         words: 512,
         descriptors: 128,
     };
-    match library_fault(file, limits) {
-        Fault::At { number, place } => Fault::At { number, place },
-        Fault::Nothing => {
-            let program = program_of(file);
-            fault_of_executables(file, program.words)
-        }
+    library_fault(file, limits)?;
+    let words = program_of(file).words;
+    for index in 0..executable_count(file).min(16) {
+        executable_fault(file, words, index, 1, index * 65536)?;
     }
+    Ok(())
 }
 
-fn write_fault<W: Write>(output: &mut W, fault: Fault) -> io::Result<()> {
+fn write_fault<W: Write>(output: &mut W, fault: Result<(), Refusal>) -> io::Result<()> {
     match fault {
-        Fault::Nothing => writeln!(output, " ok"),
-        Fault::At { number, place } => writeln!(output, " {number:02} {place:08x}"),
+        Ok(()) => writeln!(output, " ok"),
+        Err(refusal) => writeln!(output, " {:02} {:08x}", refusal.number(), refusal.place),
     }
 }
 
 // One byte more than a library may have is read, so that a longer file is seen to be longer; where a read
 // fails, what came before it is tried.
-fn fault_of_file<R: Read>(file: &mut R) -> Fault {
+fn fault_of_file<R: Read>(file: &mut R) -> Result<(), Refusal> {
     let mut bytes = [0u8; 65537];
     let (count, _) = read_what_comes(file, &mut bytes);
     first_fault(&bytes[..count])

@@ -1,7 +1,7 @@
 // The line of a walk.
+use answer::Refusal;
 use std::io;
 use std::io::Write;
-use walk::Walked;
 
 // The words of the first steps, as many as the list has, and dots if there were more.
 fn write_words<W: Write>(output: &mut W, steps: u32, fetched: &[u16]) -> io::Result<()> {
@@ -16,15 +16,15 @@ fn write_words<W: Write>(output: &mut W, steps: u32, fetched: &[u16]) -> io::Res
 
 pub(crate) fn write_walk<W: Write>(
     output: &mut W,
-    answer: Walked,
+    answer: Result<u32, Refusal>,
     fetched: &[u16],
 ) -> io::Result<()> {
     match answer {
-        Walked::Steps(steps) => {
+        Ok(steps) => {
             write!(output, "steps {steps} fetched")?;
             write_words(output, steps, fetched)?;
             writeln!(output)
         }
-        Walked::Refused { number, place } => writeln!(output, "refused {number} {place:08x}"),
+        Err(refusal) => writeln!(output, "{refusal}"),
     }
 }

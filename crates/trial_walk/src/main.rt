@@ -9,7 +9,7 @@ use binary::{ByteOffset, Range, bytes_of, tail, u8_at};
 use lines::write_walk;
 use std::io;
 use std::io::{Read, Write};
-use stream::{Next, next_library};
+use stream::each_library;
 use walk::walk;
 
 // Settings are one byte for the executable, 16 bools, 4 bytes x, and the truth list.
@@ -35,49 +35,20 @@ fn walk_with<W: Write>(output: &mut W, file: &[u8], settings: &[u8]) -> io::Resu
     write_walk(output, answer, &fetched)
 }
 
-// Walks with the next settings, and answers whether there were any.
-fn walk_next<R: Read, W: Write>(input: &mut R, output: &mut W, file: &[u8]) -> io::Result<bool> {
-    let mut bytes = [0u8; 65537];
-    let Next::Library(kept) = next_library(input, output, &mut bytes)? else {
-        return Ok(false);
-    };
-    if kept == 0 {
-        return Ok(false);
-    }
-    walk_with(output, file, &bytes[..kept])?;
-    Ok(true)
-}
-
-// A proved loop has to end, and nothing says that the input does. So this loop and the next count their
-// turns, up to a number that no run uses up.
-fn walk_with_every_setting<R: Read, W: Write>(
-    input: &mut R,
-    output: &mut W,
-    file: &[u8],
-) -> io::Result<()> {
-    for _ in 0..u64::MAX {
-        if !walk_next(input, output, file)? {
-            break;
+// Walks with one setting after another, up to an empty piece.
+fn walk_with_each<R: Read, W: Write>(input: &mut R, output: &mut W, file: &[u8]) -> io::Result<()> {
+    each_library(input, output, |_, output, settings| {
+        if settings.is_empty() {
+            return Ok(false);
         }
-    }
-    Ok(())
-}
-
-fn walk_next_library<R: Read, W: Write>(input: &mut R, output: &mut W) -> io::Result<bool> {
-    let mut bytes = [0u8; 65537];
-    let Next::Library(kept) = next_library(input, output, &mut bytes)? else {
-        return Ok(false);
-    };
-    walk_with_every_setting(input, output, &bytes[..kept])?;
-    Ok(true)
+        walk_with(output, file, settings)?;
+        Ok(true)
+    })
 }
 
 fn main(rt: HostRuntime) -> io::Result<()> {
-    let (mut input, mut output) = (rt.stdin(), rt.stdout());
-    for _ in 0..u64::MAX {
-        if !walk_next_library(&mut input, &mut output)? {
-            break;
-        }
-    }
-    Ok(())
+    each_library(&mut rt.stdin(), &mut rt.stdout(), |input, output, file| {
+        walk_with_each(input, output, file)?;
+        Ok(true)
+    })
 }

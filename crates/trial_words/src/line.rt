@@ -1,5 +1,6 @@
 // The line of a word.
-use instruction::{Decoded, Encoded, Fields, decode, encode};
+use answer::Refusal;
+use instruction::{Fields, decode, encode};
 use std::io;
 use std::io::Write;
 
@@ -46,20 +47,21 @@ fn write_fields<W: Write>(output: &mut W, fields: Fields) -> io::Result<()> {
     }
 }
 
-fn write_refused<W: Write>(output: &mut W, word: u32, number: u32) -> io::Result<()> {
-    writeln!(output, "{word:08X} refused {number:02} 00000000")
+// The word that a word's fields encode to, and these: a known word's line starts with it, so that the line is right only if both ways are.
+fn both_ways(word: u32) -> Result<(u32, Fields), Refusal> {
+    let fields = decode(word)?;
+    Ok((encode(fields)?, fields))
 }
 
-// A known word's line starts with the word that its fields encode to, so that the line is right only if both ways are.
 pub(crate) fn write_line<W: Write>(output: &mut W, word: u32) -> io::Result<()> {
-    match decode(word) {
-        Decoded::Unknown => write_refused(output, word, 9),
-        Decoded::Known(fields) => match encode(fields) {
-            Encoded::Refused => write_refused(output, word, 31),
-            Encoded::Word(encoded) => {
-                write!(output, "{encoded:08X}")?;
-                write_fields(output, fields)
-            }
-        },
+    match both_ways(word) {
+        Ok((encoded, fields)) => {
+            write!(output, "{encoded:08X}")?;
+            write_fields(output, fields)
+        }
+        Err(refusal) => {
+            let (number, place) = (refusal.number(), refusal.place);
+            writeln!(output, "{word:08X} refused {number:02} {place:08x}")
+        }
     }
 }

@@ -8,8 +8,8 @@ use lib.Dec.{leb, ltb}
 use lib.ListN.{length, get_or}
 use borrow.Author.Tests.{ltb-false, le-ltb, leb-true, le-leb, leb-false, lt-leb}
 use Rattle.answer.specs.Faults.{first_in}
-use Rattle.answer.specs.declared.Fault.{Fault}
-use Rattle.answer.specs.declared.Fault.TheVariants.{Nothing, At}
+use Rattle.answer.specs.Faults.{Fault}
+use Rattle.answer.specs.Faults.{Nothing, At}
 use Rattle.answer.proofs.Laws.{or_none, none_at, none_first}
 use Rattle.binary.specs.declared.WordAddress.{WordAddress}
 use Rattle.container.specs.Executable.{executable_of, executable_fault}
@@ -28,9 +28,7 @@ use Rattle.instruction.specs.Operands.{descriptor_of, operators_of}
 use Rattle.instruction.specs.declared.flow_control.Control.{Control}
 use Rattle.instruction.specs.declared.flow_control.Control.TheVariants.{Unknown, Plain, Emit, End, Break, If, Loop, Call, Jump}
 use Rattle.instruction.specs.declared.operand.CompareOperators.{CompareOperators}
-use Rattle.instruction.specs.declared.operand.CompareOperators.TheVariants.{Compares, None}
-use Rattle.instruction.specs.declared.operand.DescriptorId.{DescriptorId}
-use Rattle.instruction.specs.declared.operand.DescriptorId.TheVariants.{Id, Unused}
+use Rattle.std.specs.Prelude.{Option, Some, None}
 use Rattle.tables.proofs.Laws.{label_name_lem, uniform_name_lem}
 use Rattle.tables.specs.Constants.{entry_of, is_bad, convert_of, constant_fault}
 use Rattle.tables.specs.Entries.{label_address, label_name, label_fault, good_output, output_fault, in_one_kind, uniform_name, uniform_start, uniform_end, uniform_fault}
@@ -59,27 +57,27 @@ module _ (d w : ℕ) where
       by (Call c dst num) e = refl
       by (Jump c dst num) e = refl
 
-  good_operators : bad_operators (operators_of w) ≡ false → (x y : ℕ) → operators_of w ≡ Compares x y → (x ≤ 5) × (y ≤ 5)
-  good_operators h x y e =
-      let (a, b) = neither (ltb 5 x) (ltb 5 y) (sym (ap bad_operators e) ∙ h) in
-      (ltb-false 5 x a, ltb-false 5 y b)
+  good_operators : bad_operators (operators_of w) ≡ false → (o : CompareOperators) → operators_of w ≡ Some o → (o.x ≤ 5) × (o.y ≤ 5)
+  good_operators h o e =
+      let (a, b) = neither (ltb 5 o.x) (ltb 5 o.y) (sym (ap bad_operators e) ∙ h) in
+      (ltb-false 5 o.x a, ltb-false 5 o.y b)
 
-  operators_pass : ((x y : ℕ) → operators_of w ≡ Compares x y → (x ≤ 5) × (y ≤ 5)) → bad_operators (operators_of w) ≡ false
+  operators_pass : ((o : CompareOperators) → operators_of w ≡ Some o → (o.x ≤ 5) × (o.y ≤ 5)) → bad_operators (operators_of w) ≡ false
   operators_pass n = by (operators_of w) refl
     where
-      by : (o : CompareOperators) → operators_of w ≡ o → bad_operators o ≡ false
-      by (Compares x y) e = let (a, b) = n x y e in rw (le-ltb 5 x a, le-ltb 5 y b)
+      by : (o : Option CompareOperators) → operators_of w ≡ o → bad_operators o ≡ false
+      by (Some o) e = let (a, b) = n o e in rw (le-ltb 5 o.x a, le-ltb 5 o.y b)
       by None e = refl
 
-  described : undescribed d (descriptor_of w) ≡ false → (n : ℕ) → descriptor_of w ≡ Id n → n < d
+  described : undescribed d (descriptor_of w) ≡ false → (n : ℕ) → descriptor_of w ≡ Some n → n < d
   described h n e = leb-false d n (sym (ap (undescribed d) e) ∙ h)
 
-  described_passes : ((n : ℕ) → descriptor_of w ≡ Id n → n < d) → undescribed d (descriptor_of w) ≡ false
+  described_passes : ((n : ℕ) → descriptor_of w ≡ Some n → n < d) → undescribed d (descriptor_of w) ≡ false
   described_passes k = by (descriptor_of w) refl
     where
-      by : (i : DescriptorId) → descriptor_of w ≡ i → undescribed d i ≡ false
-      by (Id n) e = lt-leb d n (k n e)
-      by Unused e = refl
+      by : (i : Option ℕ) → descriptor_of w ≡ i → undescribed d i ≡ false
+      by (Some n) e = lt-leb d n (k n e)
+      by None e = refl
 
   register_passes : ((r : ℕ) (dst : WordAddress) → control_of w ≡ Loop r dst → r ≤ 3) → bad_register (control_of w) ≡ false
   register_passes n = by (control_of w) refl

@@ -6,8 +6,8 @@ use Prim.Native.Nat.{ℕ, ◌+◌, ◌≤◌}
 use native.Mathlib.Omega.{arith}
 use lib.ListN.{length, get_or}
 use Rattle.answer.specs.Answers.{refused}
-use Rattle.answer.specs.declared.Fault.{Fault}
-use Rattle.answer.specs.declared.Fault.TheVariants.{Nothing, At}
+use Rattle.answer.specs.Faults.{Fault}
+use Rattle.answer.specs.Faults.{Nothing, At}
 use Rattle.answer.proofs.Numbers.{numbered, of_tests, of_test, either_way, first_numbered, number_range}
 use Rattle.container.specs.Executable.{executable_of, executable_fault}
 use Rattle.container.specs.Program.{count_of, program_of, header_fault, program_fault, library_fault}

@@ -8,7 +8,7 @@ use native.Mathlib.Omega.{arith}
 use lib.Dec.{eqb, leb, ltb}
 use lib.ListN.{length}
 use borrow.Author.Tests.{ltb-false, le-ltb, leb-true, le-leb, lt-ltb, ltb-true, eqb-true, eqb-false, eq-eqb, ne_eqb}
-use Rattle.answer.specs.declared.Fault.TheVariants.{Nothing}
+use Rattle.answer.specs.Faults.{Nothing}
 use Rattle.answer.proofs.Laws.{or_none}
 use Rattle.binary.specs.Addresses.{byte_offset}
 use Rattle.binary.specs.Ranges.{inside}

@@ -5,13 +5,14 @@ use Prim.Native.Nat.{ℕ, ◌+◌, ◌<◌}
 use native.Mathlib.Omega.{arith}
 use lib.ListN.{length, get_or}
 use Rattle.answer.specs.Answers.{given}
-use Rattle.answer.specs.declared.Fault.TheVariants.{Nothing}
+use Rattle.answer.specs.Faults.{Nothing}
 use Rattle.container.specs.Executable.{executable_of}
 use Rattle.container.specs.Program.{count_of, program_of}
 use Rattle.container.specs.declared.executables.Executable.{Executable}
 use Rattle.container.specs.declared.programs.Program.{Program}
 use Rattle.flow.proofs.Answered.{answered_run}
-use Rattle.flow.specs.Flow.{Measured, flow_of}
+use Rattle.flow.specs.Flow.{flow_of}
+use Rattle.flow.specs.declared.entry.Measured.{Measured}
 use Rattle.flow.specs.Visits.{total, distinct}
 use Rattle.flow.specs.WholeRun.{GoodWord}
 use Rattle.verifier.specs.Clean.{code_in, visits_in, CleanWord}

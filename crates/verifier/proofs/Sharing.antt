@@ -9,14 +9,17 @@ use native.Mathlib.Omega.{arith}
 use lib.Dec.{eqb}
 use borrow.Author.Tests.{eqb-true}
 use Rattle.answer.specs.Faults.{fault_if, or_else, first_in}
-use Rattle.answer.specs.declared.Fault.{Fault}
-use Rattle.answer.specs.declared.Fault.TheVariants.{Nothing}
+use Rattle.answer.specs.Faults.{Fault}
+use Rattle.answer.specs.Faults.{Nothing}
 use Rattle.answer.proofs.Laws.{all_left, miss}
 use Rattle.container.specs.declared.executables.Executable.{Executable}
 use Rattle.container.specs.declared.placement.Table.{Table}
 use Rattle.flow.proofs.Tests.{both, last_passed}
-use Rattle.flow.specs.Flow.{flowed, flow_answer}
-use Rattle.flow.specs.declared.entry.Flow.{Flow}
+use Rattle.std.specs.Prelude.{Result}
+use Rattle.answer.specs.Answers.{answered}
+use Rattle.answer.specs.declared.Refusal.{Refusal}
+use Rattle.flow.specs.Flow.{flow_answer}
+use Rattle.flow.specs.declared.entry.Measured.{Measured}
 use Rattle.tables.specs.Constants.{entry_of, convert_of, is_bad, constant_fault}
 use Rattle.tables.specs.Entries.{good_label, label_fault, good_output, output_fault, good_uniform, uniform_fault}
 use Rattle.tables.specs.Names.{names_end}
@@ -114,7 +117,7 @@ same_main ws a b e =
     cc
 
 -- an executable without entries is known
-pub none_known : (file ws : List ℕ) {e : Executable} {names : ℕ} {r : Flow} → e ≡ no_executable → names ≡ names_end (symbols_of file e.symbols) → flowed r ≡ flow_answer ws 0 0 0
+pub none_known : (file ws : List ℕ) {e : Executable} {names : ℕ} {r : Result Measured Refusal} → e ≡ no_executable → names ≡ names_end (symbols_of file e.symbols) → answered r ≡ flow_answer ws 0 0 0
     → Known file ws (record { executable = e; names = names; flow = r })
 none_known file ws q n a =
     record {
@@ -147,7 +150,7 @@ module _ {file ws : List ℕ} {l : Library} (loaded : Loaded file l ws) (e : Exe
     known_uniforms = rw (← names_same) known.uniforms
 
   -- an executable whose entries are all good is known
-  pub now_known : {r : Flow} → flowed r ≡ flow_answer ws e.shader_type e.main.0 e.endmain.0
+  pub now_known : {r : Result Measured Refusal} → answered r ≡ flow_answer ws e.shader_type e.main.0 e.endmain.0
       → Good constant_fault file e.constants 20 e.constants.count
       → Good (label_test file e l.program.words.count) file e.labels 16 e.labels.count
       → Good output_fault file e.outputs 8 e.outputs.count

@@ -1,28 +1,29 @@
 -- Judging executables one after another: what is left of the answer at each stage of one of them. Assumes nothing.
-use mathlib.Core.Path.{◌≡◌, sym, ap, ◌∙◌}
+use mathlib.Core.Path.{◌≡◌, refl, sym, ap, ◌∙◌}
+use mathlib.Core.Bool.{true, false}
 use mathlib.Core.List.{List}
 use Prim.Native.Nat.{ℕ, ◌+◌, ◌*◌, ◌-◌, ◌≤◌, ◌<◌}
 use native.Mathlib.Omega.{arith}
 use lib.ListN.{length, set, replicate}
-use Rattle.answer.specs.Answers.{given, refused}
-use Rattle.answer.specs.Faults.{or_else, first_in}
-use Rattle.answer.specs.declared.Fault.{Fault}
-use Rattle.answer.specs.declared.Fault.TheVariants.{Nothing, At}
+use Rattle.std.specs.Prelude.{Result, Ok, Err, is_err}
+use Rattle.answer.specs.Answers.{given, answered}
+use Rattle.answer.specs.Faults.{Fault, Nothing, At, or_else, first_in, faulted}
+use Rattle.answer.specs.Reasons.{number_of}
+use Rattle.answer.specs.declared.Refusal.{Refusal}
 use Rattle.answer.proofs.Laws.{or_assoc, or_nothing, here, pass}
 use Rattle.container.specs.Executable.{executable_of, executable_fault}
 use Rattle.container.specs.declared.executables.Executable.{Executable}
 use Rattle.container.specs.declared.programs.Program.{Program}
 use Rattle.container.specs.Program.{program_of}
+use Rattle.flow.proofs.Tests.{false_not_true}
 use Rattle.flow.proofs.Places.{refused_inside, entered}
-use Rattle.flow.specs.Flow.{flowed, flow_answer, flow_of}
-use Rattle.flow.specs.declared.entry.Flow.{Flow}
-use Rattle.flow.specs.declared.entry.Flow.TheVariants.{Passed, Refused}
+use Rattle.flow.specs.Flow.{flow_answer, flow_of}
+use Rattle.flow.specs.declared.entry.Measured.{Measured}
 use Rattle.verifier.specs.Clean.{ExecutableTables}
 use Rattle.verifier.specs.Executables.{rules_for, no_report, report_with, report_of}
 use Rattle.verifier.specs.Lists.{filled}
-use Rattle.verifier.specs.Inside.{Loaded, refused_by, judged_by}
-use Rattle.verifier.specs.declared.verdict.Checked.TheVariants.{Accepted}
-use Rattle.verifier.specs.declared.verdict.Judged.{Judged}
+use Rattle.verifier.specs.Inside.{Loaded}
+use Rattle.verifier.specs.Verdict.{answer_by}
 use Rattle.verifier.specs.declared.verdict.Library.{Library}
 use Rattle.verifier.specs.declared.verdict.Report.{Report}
 use Rattle.verifier.proofs.Lists.{length_list, filled_none, filled_next}
@@ -109,39 +110,39 @@ module _ {file ws : List ℕ} {l : Library} (known : Loaded file l ws) where
         rw q (h.type, h.main, omega (arith, h.endmain))
 
     -- the flow check's answer
-    module _ (r : Flow) (answer : flowed r ≡ flow_answer ws e.shader_type e.main.0 e.endmain.0) where
-      pub flow_told : flow_in (words_of file l.program.words) e ≡ flowed r
+    module _ (r : Result Measured Refusal) (answer : answered r ≡ flow_answer ws e.shader_type e.main.0 e.endmain.0) where
+      pub flow_told : flow_in (words_of file l.program.words) e ≡ answered r
       flow_told =
           let (a, b, n) = sizes in
           let (t, m, o) = bounds in
           rw (← known.words) (sym (answer ∙ entered ws e.shader_type e.main.0 e.endmain.0 a b t m o))
 
-      pub word_inside : {number word : ℕ} → r ≡ Refused number word → word < 512
-      word_inside {number} {word} k =
+      pub word_inside : {e : Refusal} → r ≡ Err e → e.place < 512
+      word_inside {e = f} k =
           let (a, b, n) = sizes in
           let (t, m, o) = bounds in
-          let f : flow_of (rules_for e) ws e.main.0 e.endmain.0 ≡ refused number word =
-          sym (entered ws e.shader_type e.main.0 e.endmain.0 a b t m o) ∙ sym answer ∙ ap flowed k in
-          omega (arith, refused_inside (rules_for e) ws e.main.0 e.endmain.0 m o f)
+          let told : flow_of (rules_for e) ws e.main.0 e.endmain.0 ≡ answered (Err f) =
+          sym (entered ws e.shader_type e.main.0 e.endmain.0 a b t m o) ∙ sym answer ∙ ap answered k in
+          omega (arith, refused_inside (rules_for e) ws e.main.0 e.endmain.0 m o told)
 
       -- .. is a refusal of the executable, or its report and the executables after it
       module _ (first end : ℕ) (left : All file l.program first end ≡ FromFlow file l.program first end index e (place_of index)) where
-        pub flow_stops : {number word : ℕ} → r ≡ Refused number word → At number (place_of index + word) ≡ All file l.program first end
+        pub flow_stops : {f : Refusal} → r ≡ Err f → At (number_of f.reason) (place_of index + f.place) ≡ All file l.program first end
         flow_stops k = sym (left ∙ rw (flow_told, k))
 
-        pub flow_goes_on : {total words : ℕ} → r ≡ Passed total words → All file l.program first end ≡ From file l.program first end (index + 1)
+        pub flow_goes_on : {m : Measured} → r ≡ Ok m → All file l.program first end ≡ From file l.program first end (index + 1)
         flow_goes_on k = left ∙ rw (flow_told, k)
 
-      pub report_told : {total words : ℕ} {t : Report} → r ≡ Passed total words → t ≡ report_with e (given (record { total = total; words = words })) → t ≡ report_of file l.program index
+      pub report_told : {m : Measured} {t : Report} → r ≡ Ok m → t ≡ report_with e (given m) → t ≡ report_of file l.program index
       unfolding report_of
-      report_told {total} {words} k g =
-          let f : flow_in (words_of file l.program.words) (executable_of file index) ≡ given (record { total = total; words = words }) =
-          ap (flow_in (words_of file l.program.words)) (sym q) ∙ flow_told ∙ ap flowed k in
-          g ∙ ap (λ x. report_with x (given (record { total = total; words = words }))) q ∙ ap (report_with (executable_of file index)) (sym f)
+      report_told {m} k g =
+          let f : flow_in (words_of file l.program.words) (executable_of file index) ≡ given m =
+          ap (flow_in (words_of file l.program.words)) (sym q) ∙ flow_told ∙ ap answered k in
+          g ∙ ap (λ x. report_with x (given m)) q ∙ ap (report_with (executable_of file index)) (sym f)
 
-      pub report_added : (first : ℕ) {total words : ℕ} {t : Report} {rs : List Report} → first ≤ index → index < 16
+      pub report_added : (first : ℕ) {m : Measured} {t : Report} {rs : List Report} → first ≤ index → index < 16
           → rs ≡ filled (report_of file l.program) first 16 (index - first) no_report
-          → r ≡ Passed total words → t ≡ report_with e (given (record { total = total; words = words }))
+          → r ≡ Ok m → t ≡ report_with e (given m)
           → set rs (index - first) t ≡ filled (report_of file l.program) first 16 (index + 1 - first) no_report
       report_added first o b f k g =
           let y : first + (index - first) ≡ index = omega arith in
@@ -155,14 +156,28 @@ none_yet f first e =
     rw (z, e) (filled_none f first 16 no_report)
 
 -- where the loop is left: what was found is the answer, and if that is no fault, the loop is over
-abbrev pub Left : Fault → Fault → Type 0 → Type 0
-Left A found over = (found ≡ A) × (found ≡ Nothing → over)
+abbrev pub Left : Fault → Result Unit Refusal → Type 0 → Type 0
+Left A found over = (faulted found ≡ A) × (faulted found ≡ Nothing → over)
 
-pub left_by : {A found r : Fault} {n p : ℕ} {over : Type 0} → found ≡ r → r ≡ At n p → At n p ≡ A → Left A found over
-left_by a b c = (a ∙ b ∙ c, λ e. absurd (let z : ◌≡◌ {A = ℕ} 0 1 = cc in omega arith))
+pub left_by : {A : Fault} {found r : Result Unit Refusal} {over : Type 0} → found ≡ r → is_err r ≡ true → faulted r ≡ A → Left A found over
+left_by {A} {found} {r} {over} a b c = (ap faulted a ∙ c, λ e. absurd (by r b (sym (ap faulted a) ∙ e)))
+  where
+    by : (x : Result Unit Refusal) → is_err x ≡ true → faulted x ≡ Nothing → ⊥
+    by (Ok u) g h = false_not_true g
+    by (Err f) g h = let z : ◌≡◌ {A = ℕ} 0 1 = cc in omega arith
 
-pub told_refused : {A found : Fault} {n p : ℕ} {j : Judged} (l : Library) (rs : List Report) → found ≡ A → found ≡ At n p → j ≡ refused_by n p → j ≡ judged_by A l rs
-told_refused l rs a b c = c ∙ rw (← a, b)
+-- a test that found a fault, and one that found none
+pub found_by : {A x : Fault} (r : Result Unit Refusal) → is_err r ≡ true → faulted r ≡ x → ((n p : ℕ) → x ≡ At n p → At n p ≡ A) → faulted r ≡ A
+found_by (Ok u) b e k = absurd (false_not_true b)
+found_by (Err f) b e k = k _ _ (sym e)
 
-pub told_accepted : {A found : Fault} (l : Library) {rs us : List Report} → found ≡ A → found ≡ Nothing → rs ≡ us → record { verdict = Accepted l; reports = rs } ≡ judged_by A l us
-told_accepted l a b c = rw (← a, b, c)
+pub passes : (r : Result Unit Refusal) → is_err r ≡ false → faulted r ≡ Nothing
+passes (Ok u) b = refl
+passes (Err f) b = absurd (false_not_true (sym b))
+
+-- what is answered then
+pub told_refused : {A : Fault} {found : Result Unit Refusal} {e : Refusal} (us : List Report) → faulted found ≡ A → found ≡ Err e → answered {A = List Report} (Err e) ≡ answer_by A us
+told_refused us a b = rw (← a, b)
+
+pub told_reports : {A : Fault} {found : Result Unit Refusal} {u : Unit} {rs us : List Report} → faulted found ≡ A → found ≡ Ok u → rs ≡ us → given rs ≡ answer_by A us
+told_reports a b c = rw (← a, b, c)

@@ -2,11 +2,11 @@
 use mathlib.Core.Path.{◌≡◌, sym, ap, ◌∙◌}
 use mathlib.Core.List.{List}
 use Prim.Native.Nat.{ℕ, ◌≤◌}
-use Rattle.answer.specs.Answers.{given, refused}
+use Rattle.std.specs.Prelude.{Result, Ok, Err}
+use Rattle.answer.specs.Answers.{given, answered}
+use Rattle.answer.specs.declared.Refusal.{Refusal}
 use Rattle.verifier.specs.Clean.{Clean}
-use Rattle.verifier.specs.Verdict.{library_of, check_of, checked_as}
-use Rattle.verifier.specs.declared.verdict.Checked.{Checked}
-use Rattle.verifier.specs.declared.verdict.Checked.TheVariants.{Accepted, Refused}
+use Rattle.verifier.specs.Verdict.{library_of, check_of}
 use Rattle.verifier.specs.declared.verdict.Library.{Library}
 use Rattle.verifier.proofs.Answers.{exactly}
 
@@ -20,15 +20,15 @@ module _ (file : List ℕ) where
     pub executables : l.executables ≤ 16
     pub same : l ≡ library_of file
 
-  pub taken : {r : Checked} {l : Library} → checked_as r ≡ check_of file → r ≡ Accepted l → Taken l
+  pub taken : {r : Result Library Refusal} {l : Library} → answered r ≡ check_of file → r ≡ Ok l → Taken l
   taken {r} {l} e h =
       let x = exactly file {r = r} e in
       let c = x.clean l h in
       let (some, few, d) = c.library.no7 in
       let (n, m) = c.library.no4 in
-      let q : l ≡ library_of file = inside (sym h ∙ x.accepted c) in
+      let q : l ≡ library_of file = inside h (x.accepted c) in
       record {
-        answer = sym e ∙ ap checked_as h;
+        answer = sym e ∙ ap answered h;
         clean = c;
         words = rw q few;
         descriptors = rw q d;
@@ -36,9 +36,9 @@ module _ (file : List ℕ) where
         same = q;
       }
     where
-      inside : {a b : Library} → Accepted a ≡ Accepted b → a ≡ b
-      inside p = cc
+      inside : {a b : Library} {r : Result Library Refusal} → r ≡ Ok a → r ≡ Ok b → a ≡ b
+      inside p q = cc
 
   -- a refused one
-  pub refused_check : {r : Checked} {n q : ℕ} → checked_as r ≡ check_of file → r ≡ Refused n q → check_of file ≡ refused n q
-  refused_check e h = sym e ∙ ap checked_as h
+  pub refused_check : {r : Result Library Refusal} {e : Refusal} → answered r ≡ check_of file → r ≡ Err e → check_of file ≡ answered (Err e)
+  refused_check e h = sym e ∙ ap answered h

@@ -18,13 +18,13 @@ use Rattle.instruction.specs.Control.{control_of}
 use Rattle.instruction.specs.Operands.{descriptor_of, operators_of}
 use Rattle.instruction.specs.Operations.{operations, format_of}
 use Rattle.instruction.specs.Words.{decode_of}
-use Rattle.tables.specs.Constants.{entry_of, constant_if, convert_of, constant_fault}
+use Rattle.std.specs.Prelude.{Option, Some, None}
+use Rattle.tables.specs.Constants.{entry_of, convert_of, constant_fault}
 use Rattle.tables.specs.Entries.{good_label, label_fault, good_output, output_fault, in_one_kind, good_uniform, uniform_fault}
 use Rattle.tables.specs.Float24.{good_float24, f32_bits}
 use Rattle.tables.specs.Names.{meets0, names_end}
 use Rattle.tables.specs.declared.constants.Constant.TheVariants.{Flag, Bytes, Vector}
-use Rattle.tables.specs.declared.constants.Converted.{Converted}
-use Rattle.tables.specs.declared.constants.Converted.TheVariants as converted
+use Rattle.tables.specs.declared.constants.Constant.{Constant}
 use Rattle.verifier.specs.Clean.{code_in}
 use Rattle.verifier.specs.Executables.{entry_at, one_executable, ones_in, report_of}
 use Rattle.verifier.specs.Lists.{list_of}
@@ -126,11 +126,11 @@ reported : List ℕ → List Asked → Answer Report → Outcome
 reported file as' (given r) = measures r.total (map (steps file r) as')
 reported file as' (refused n p) = refuses n p
 
-first_of : Converted → Outcome
-first_of (converted.Constant (Flag b)) = fails
-first_of (converted.Constant (Bytes b)) = fails
-first_of (converted.Constant (Vector v)) = converts v.x
-first_of converted.Bad = fails
+first_of : Option Constant → Outcome
+first_of (Some (Flag b)) = fails
+first_of (Some (Bytes b)) = fails
+first_of (Some (Vector v)) = converts v.x
+first_of None = fails
 
 constant_in : List ℕ → Answer Report → Outcome
 constant_in file (given r) = first_of (convert_of (entry_of (entry_at file (executable_of file 0).constants 20 0)))
@@ -185,7 +185,7 @@ trials =
     []
 
 tried : map outcome trials ≡ map expected trials
-unfolding trials nop end expected outcome constant_in first_of reported steps steps_in asked file_of exe empty offsets sections u32s u32 report_answer check_of whole_fault library_fault header_fault program_fault bad_sizes misplaced_table misplaced overlapped_words words_meet words_fault word_fault one_executable executable_fault misplaced_section bad_entry misplaced_tables overlapped_by_tables flow_of flow_fault main_trace trace trace_to region visit parts fault_at spare size own_words own_from control_of decode_of format_of operations operators_of descriptor_of constant_fault convert_of constant_if good_float24 f32_bits report_of first_in list_of ones_in names_end meets0 run step execute break arrive
+unfolding trials nop end expected outcome constant_in first_of reported steps steps_in asked file_of exe empty offsets sections u32s u32 report_answer check_of whole_fault library_fault header_fault program_fault bad_sizes misplaced_table misplaced overlapped_words words_meet words_fault word_fault one_executable executable_fault misplaced_section bad_entry misplaced_tables overlapped_by_tables flow_of flow_fault main_trace trace trace_to region visit parts fault_at spare size own_words own_from control_of decode_of format_of operations operators_of descriptor_of constant_fault convert_of good_float24 f32_bits report_of first_in list_of ones_in names_end meets0 run step execute break arrive
 tried = refl
 
 -- The order of the refusals, and 29: the words, the executables, the tables, the executable that is asked for, and the total or the refusal
@@ -249,7 +249,7 @@ orders =
     []
 
 ordered : map (λ o. let file = file_of o.words o.exes o.tables in reported file [] (report_answer file o.asks)) orders ≡ map (λ o. o.answer) orders
-unfolding orders order good just bools label output uniform nop end reported steps steps_in asked file_of exe empty offsets sections u32s u32 report_answer check_of whole_fault library_fault header_fault program_fault bad_sizes misplaced_table misplaced overlapped_words words_meet words_fault word_fault one_executable executable_fault misplaced_section bad_entry misplaced_tables overlapped_by_tables flow_of flow_fault main_trace trace trace_to region visit parts fault_at spare size own_words own_from control_of decode_of format_of operations operators_of descriptor_of constant_fault convert_of constant_if good_float24 f32_bits report_of first_in list_of ones_in names_end meets0 good_label label_fault good_output output_fault in_one_kind good_uniform uniform_fault run step execute break arrive
+unfolding orders order good just bools label output uniform nop end reported steps steps_in asked file_of exe empty offsets sections u32s u32 report_answer check_of whole_fault library_fault header_fault program_fault bad_sizes misplaced_table misplaced overlapped_words words_meet words_fault word_fault one_executable executable_fault misplaced_section bad_entry misplaced_tables overlapped_by_tables flow_of flow_fault main_trace trace trace_to region visit parts fault_at spare size own_words own_from control_of decode_of format_of operations operators_of descriptor_of constant_fault convert_of good_float24 f32_bits report_of first_in list_of ones_in names_end meets0 good_label label_fault good_output output_fault in_one_kind good_uniform uniform_fault run step execute break arrive
 ordered = refl
 
 -- The numbers of sixteen reports: type, main, endmain, ones in the input mask, ones in the output mask, constants, distinct words visited, total
@@ -264,11 +264,11 @@ numbers_of ws exes t = map numbers (judge_of (file_of ws exes t)).reports
 
 -- the example of document 01
 example : numbers_of (0x4c000000 ∷ 0x9cc00c00 ∷ 0x02225100 ∷ nop ∷ end ∷ []) (exe 0 5 0 ∷ []) empty ≡ (0 ∷ 0 ∷ 5 ∷ 1 ∷ 1 ∷ 0 ∷ 5 ∷ 5 ∷ []) ∷ replicate 15 zeros
-unfolding numbers_of zeros numbers just bools nop end judge_of file_of exe empty offsets sections u32s u32 check_of whole_fault library_fault header_fault program_fault bad_sizes misplaced_table misplaced overlapped_words words_meet words_fault word_fault one_executable executable_fault misplaced_section bad_entry misplaced_tables overlapped_by_tables flow_of flow_fault main_trace trace trace_to region visit parts fault_at spare size own_words own_from control_of decode_of format_of operations operators_of descriptor_of constant_fault convert_of constant_if good_float24 f32_bits report_of first_in list_of ones_in names_end meets0
+unfolding numbers_of zeros numbers just bools nop end judge_of file_of exe empty offsets sections u32s u32 check_of whole_fault library_fault header_fault program_fault bad_sizes misplaced_table misplaced overlapped_words words_meet words_fault word_fault one_executable executable_fault misplaced_section bad_entry misplaced_tables overlapped_by_tables flow_of flow_fault main_trace trace trace_to region visit parts fault_at spare size own_words own_from control_of decode_of format_of operations operators_of descriptor_of constant_fault convert_of good_float24 f32_bits report_of first_in list_of ones_in names_end meets0
 example = refl
 
 -- two executables with two constants each, three inputs and two outputs, of five words with two visited twice; then the same with a fault in executable 1: all are zeros
 judged : map (λ e. numbers_of (0x90000c02 ∷ 0x90000c02 ∷ end ∷ nop ∷ nop ∷ []) (record { type = 0; endmain = 3; off = 0; masks = 0x00030007 } ∷ exe 1 e 0 ∷ []) (just (bools 1 ++ bools 0))) (3 ∷ 2 ∷ [])
     ≡ ((0 ∷ 0 ∷ 3 ∷ 3 ∷ 2 ∷ 2 ∷ 5 ∷ 7 ∷ []) ∷ (1 ∷ 0 ∷ 3 ∷ 1 ∷ 1 ∷ 2 ∷ 5 ∷ 7 ∷ []) ∷ replicate 14 zeros) ∷ replicate 16 zeros ∷ []
-unfolding numbers_of zeros numbers just bools nop end judge_of file_of exe empty offsets sections u32s u32 check_of whole_fault library_fault header_fault program_fault bad_sizes misplaced_table misplaced overlapped_words words_meet words_fault word_fault one_executable executable_fault misplaced_section bad_entry misplaced_tables overlapped_by_tables flow_of flow_fault main_trace trace trace_to region visit parts fault_at spare size own_words own_from control_of decode_of format_of operations operators_of descriptor_of constant_fault convert_of constant_if good_float24 f32_bits report_of first_in list_of ones_in names_end meets0
+unfolding numbers_of zeros numbers just bools nop end judge_of file_of exe empty offsets sections u32s u32 check_of whole_fault library_fault header_fault program_fault bad_sizes misplaced_table misplaced overlapped_words words_meet words_fault word_fault one_executable executable_fault misplaced_section bad_entry misplaced_tables overlapped_by_tables flow_of flow_fault main_trace trace trace_to region visit parts fault_at spare size own_words own_from control_of decode_of format_of operations operators_of descriptor_of constant_fault convert_of good_float24 f32_bits report_of first_in list_of ones_in names_end meets0
 judged = refl

@@ -1,7 +1,7 @@
 -- A clean file: one line for each row of document 01's table of refusals, 1 to 28, that says that it does not apply ('Numbers given back').
 -- The check accepts exactly these files: proofs/Clean.antt, clean and accepted.
 -- Assumes nothing.
-use Rattle.std.specs.Prelude.{◌≡◌, true, false, List, [], ◌∷◌, ℕ, ◌+◌, ◌*◌, ◌-◌, ◌%◌, ◌≤◌, ◌<◌, length}
+use Rattle.std.specs.Prelude.{◌≡◌, true, false, List, [], ◌∷◌, ℕ, ◌+◌, ◌*◌, ◌-◌, ◌%◌, ◌≤◌, ◌<◌, length, Some}
 use Rattle.binary.specs.Addresses.{byte_offset}
 use Rattle.binary.specs.Ranges.{Holds}
 use Rattle.binary.specs.declared.Range.{Range}
@@ -19,8 +19,7 @@ use Rattle.instruction.specs.Control.{control_of}
 use Rattle.instruction.specs.Operands.{descriptor_of, operators_of}
 use Rattle.instruction.specs.declared.flow_control.Control.TheVariants.{Unknown, Loop}
 use Rattle.binary.specs.declared.WordAddress.{WordAddress}
-use Rattle.instruction.specs.declared.operand.CompareOperators.TheVariants.{Compares}
-use Rattle.instruction.specs.declared.operand.DescriptorId.TheVariants.{Id}
+use Rattle.instruction.specs.declared.operand.CompareOperators.{CompareOperators}
 use Rattle.tables.specs.Constants.{entry_of, is_bad, convert_of}
 use Rattle.tables.specs.Entries.{good_output, in_one_kind, label_address, label_name, uniform_name, uniform_start, uniform_end}
 use Rattle.tables.specs.Names.{good_name}
@@ -108,9 +107,9 @@ pub record CleanWord (descriptors w : ℕ) : Type 0 where
   -- unknown opcode
   pub no9 : control_of w ≡ Unknown → ⊥
   -- compare operator 6 or 7
-  pub no10 : (x y : ℕ) → operators_of w ≡ Compares x y → (x ≤ 5) × (y ≤ 5)
+  pub no10 : (o : CompareOperators) → operators_of w ≡ Some o → (o.x ≤ 5) × (o.y ≤ 5)
   -- descriptor ID not in the table
-  pub no11 : (n : ℕ) → descriptor_of w ≡ Id n → n < descriptors
+  pub no11 : (n : ℕ) → descriptor_of w ≡ Some n → n < descriptors
   -- LOOP register over 3
   pub no12 : (r : ℕ) (dst : WordAddress) → control_of w ≡ Loop r dst → r ≤ 3
 

@@ -3,14 +3,15 @@
 use Rattle.std.specs.Prelude.{ℕ, zero, suc, ◌+◌, ◌*◌, ◌/◌, ◌%◌, List, eqb, take, drop}
 use Rattle.answer.specs.Answers.{Answer, given, refused}
 use Rattle.answer.specs.Faults.{or_else, first_in}
-use Rattle.answer.specs.declared.Fault.{Fault}
-use Rattle.answer.specs.declared.Fault.TheVariants.{Nothing, At}
+use Rattle.answer.specs.Faults.{Fault}
+use Rattle.answer.specs.Faults.{Nothing, At}
 use Rattle.binary.specs.Addresses.{word_address}
 use Rattle.container.specs.Executable.{executable_of, executable_fault}
 use Rattle.container.specs.declared.executables.Executable.{Executable}
 use Rattle.container.specs.declared.placement.Table.{Table}
 use Rattle.container.specs.declared.programs.Program.{Program}
-use Rattle.flow.specs.Flow.{Measured, flow_of}
+use Rattle.flow.specs.Flow.{flow_of}
+use Rattle.flow.specs.declared.entry.Measured.{Measured}
 use Rattle.flow.specs.Rules.{Rules, full_rules}
 use Rattle.tables.specs.Constants.{constant_fault}
 use Rattle.tables.specs.Entries.{label_fault, output_fault, uniform_fault}

@@ -1,32 +1,21 @@
 -- What the functions inside this crate answer and rely on, for their contracts. The rules are in the other files.
 -- Assumes nothing.
-use Rattle.std.specs.Prelude.{◌≡◌, ℕ, ◌<◌, min, Bool, ◌&&◌, cond, List, eqb, length, replicate}
-use Rattle.answer.specs.declared.Fault.{Fault}
-use Rattle.answer.specs.declared.Fault.TheVariants.{Nothing, At}
+use Rattle.std.specs.Prelude.{◌≡◌, ℕ, ◌<◌, min, Bool, ◌&&◌, cond, List, eqb, length}
+use Rattle.answer.specs.Faults.{Fault, Nothing}
 use Rattle.binary.specs.Addresses.{byte_offset, word_address}
 use Rattle.container.specs.Program.{program_of, library_fault}
 use Rattle.container.specs.declared.executables.Executable.{Executable}
 use Rattle.container.specs.declared.placement.Table.{Table}
-use Rattle.flow.specs.Flow.{flowed, flow_answer}
+use Rattle.answer.specs.Answers.{answered}
+use Rattle.flow.specs.Flow.{flow_answer}
 use Rattle.tables.specs.Constants.{constant_fault}
 use Rattle.tables.specs.Entries.{label_fault, output_fault, uniform_fault}
 use Rattle.tables.specs.Names.{names_end}
-use Rattle.verifier.specs.Executables.{entry_at, symbols_of, no_report}
+use Rattle.verifier.specs.Executables.{entry_at, symbols_of}
 use Rattle.verifier.specs.Verdict.{full_limits}
 use Rattle.verifier.specs.Words.{words_of}
 use Rattle.verifier.specs.declared.earlier.Earlier.{Earlier}
-use Rattle.verifier.specs.declared.verdict.Checked.TheVariants as checked
-use Rattle.verifier.specs.declared.verdict.Judged.{Judged}
 use Rattle.verifier.specs.declared.verdict.Library.{Library}
-use Rattle.verifier.specs.declared.verdict.Report.{Report}
-
--- a refused library; a library that is refused by a fault, or accepted with its reports
-abbrev pub refused_by : ℕ → ℕ → Judged
-refused_by number place = record { verdict = checked.Refused number place; reports = replicate 16 no_report }
-
-abbrev pub judged_by : Fault → Library → List Report → Judged
-judged_by (At number place) l rs = refused_by number place
-judged_by Nothing l rs = record { verdict = checked.Accepted l; reports = rs }
 
 -- what judging executables relies on: the file has passed 1 to 8, and these are its tables and words
 pub record Loaded (file : List ℕ) (l : Library) (ws : List ℕ) : Type 0 where
@@ -64,7 +53,7 @@ Good f file t size n = (j place : ℕ) → j < n → f (entry_at file t size j) 
 -- what is known of an earlier executable: it has no bad entries, and its names and its flow are these
 pub record Known (file ws : List ℕ) (k : Earlier) : Type 0 where
   pub names : k.names ≡ names_end (symbols_of file k.executable.symbols)
-  pub flow : flowed k.flow ≡ flow_answer ws k.executable.shader_type k.executable.main.0 k.executable.endmain.0
+  pub flow : answered k.flow ≡ flow_answer ws k.executable.shader_type k.executable.main.0 k.executable.endmain.0
   pub constants : Good constant_fault file k.executable.constants 20 k.executable.constants.count
   pub labels : Good (λ s. label_fault s (length ws) k.names) file k.executable.labels 16 k.executable.labels.count
   pub outputs : Good output_fault file k.executable.outputs 8 k.executable.outputs.count

@@ -1,6 +1,7 @@
 -- What the public calls promise beside their answers: the check accepts exactly the clean files (demand 2), and a report holds for every run of its executable (demand 3).
 -- Assumes nothing.
-use Rattle.std.specs.Prelude.{◌≡◌, List, ℕ, ◌≤◌, ◌<◌, get_or}
+use Rattle.std.specs.Prelude.{◌≡◌, List, ℕ, ◌≤◌, ◌<◌, get_or, Result, Ok}
+use Rattle.answer.specs.declared.Refusal.{Refusal}
 use Rattle.container.specs.Executable.{executable_of}
 use Rattle.container.specs.Program.{program_of}
 use Rattle.flow.specs.Rules.{Code}
@@ -10,18 +11,14 @@ use Rattle.flow.specs.WholeRun.{Whole}
 use Rattle.verifier.specs.Clean.{code_in, visits_in, Clean}
 use Rattle.verifier.specs.Executables.{no_report}
 use Rattle.verifier.specs.Verdict.{library_of}
-use Rattle.verifier.specs.declared.verdict.Checked.{Checked}
-use Rattle.verifier.specs.declared.verdict.Checked.TheVariants.{Accepted}
 use Rattle.verifier.specs.declared.verdict.Judged.{Judged}
 use Rattle.verifier.specs.declared.verdict.Library.{Library}
 use Rattle.verifier.specs.declared.verdict.Report.{Report}
-use Rattle.verifier.specs.declared.verdict.Reported.{Reported}
-use Rattle.verifier.specs.declared.verdict.Reported.TheVariants.{Given}
 
 -- 'accepted exactly if none applies' (document 01, 'What a statement has to tie down')
-pub record AcceptsClean (file : List ℕ) (r : Checked) : Type 0 where
-  pub clean : (l : Library) → r ≡ Accepted l → Clean file
-  pub accepted : Clean file → r ≡ Accepted (library_of file)
+pub record AcceptsClean (file : List ℕ) (r : Result Library Refusal) : Type 0 where
+  pub clean : (l : Library) → r ≡ Ok l → Clean file
+  pub accepted : Clean file → r ≡ Ok (library_of file)
 
 -- what an executable of a file runs, and where it starts
 abbrev pub code_for : List ℕ → Code
@@ -39,8 +36,8 @@ pub record Promised (file : List ℕ) (index : ℕ) (t : Report) : Type 0 where
   pub counted : t.total ≡ total (visits_in file (program_of file) (executable_of file index))
 
 -- every report that is given, and every report of an accepted library
-abbrev pub Promises : List ℕ → ℕ → Reported → Type 0
-Promises file index r = (t : Report) → r ≡ Given t → Promised file index t
+abbrev pub Promises : List ℕ → ℕ → Result Report Refusal → Type 0
+Promises file index r = (t : Report) → r ≡ Ok t → Promised file index t
 
-abbrev pub PromisesAll : List ℕ → Judged → Type 0
-PromisesAll file j = (l : Library) → j.verdict ≡ Accepted l → (i : ℕ) → i < l.executables → Promised file i (get_or j.reports i no_report)
+abbrev pub PromisesAll : List ℕ → Result Judged Refusal → Type 0
+PromisesAll file r = (j : Judged) → r ≡ Ok j → (i : ℕ) → i < j.library.executables → Promised file i (get_or j.reports i no_report)

@@ -1,22 +1,20 @@
 -- The whole check, and the answers of the public calls (document 01, 'Numbers given back', its last paragraph).
 -- Assumes nothing.
-use Rattle.std.specs.Prelude.{ℕ, List, replicate}
+use Rattle.std.specs.Prelude.{ℕ, List, replicate, Result, Ok, Err}
 use Rattle.answer.specs.Answers.{Answer, given, refused, or_missing}
+use Rattle.answer.specs.Reasons.{number_of}
+use Rattle.answer.specs.declared.Refusal.{Refusal}
 use Rattle.answer.specs.Faults.{or_else, first_in}
-use Rattle.answer.specs.declared.Fault.{Fault}
-use Rattle.answer.specs.declared.Fault.TheVariants.{Nothing, At}
+use Rattle.answer.specs.Faults.{Fault}
+use Rattle.answer.specs.Faults.{Nothing, At}
 use Rattle.container.specs.Program.{count_of, program_of, library_fault}
 use Rattle.container.specs.declared.programs.Limits.{Limits}
 use Rattle.verifier.specs.Executables.{one_executable, no_report, report_of}
 use Rattle.verifier.specs.Lists.{filled}
 use Rattle.verifier.specs.Words.{words_of, words_fault}
-use Rattle.verifier.specs.declared.verdict.Checked.{Checked}
-use Rattle.verifier.specs.declared.verdict.Checked.TheVariants as checked
 use Rattle.verifier.specs.declared.verdict.Judged.{Judged}
 use Rattle.verifier.specs.declared.verdict.Library.{Library}
 use Rattle.verifier.specs.declared.verdict.Report.{Report}
-use Rattle.verifier.specs.declared.verdict.Reported.{Reported}
-use Rattle.verifier.specs.declared.verdict.Reported.TheVariants as reported
 
 -- 7: 'words .. over 512, or descriptors over 128'
 abbrev pub full_limits : Limits
@@ -61,14 +59,7 @@ report_in file index (given l) = or_missing index l.executables (given (report_o
 unfoldable pub report_answer : List ℕ → ℕ → Answer Report
 report_answer file index = report_in file index (check_of file)
 
--- the code's answers
-abbrev pub checked_as : Checked → Answer Library
-checked_as (checked.Accepted l) = given l
-checked_as (checked.Refused number place) = refused number place
-
-abbrev pub judged_as : Judged → Judgement
-judged_as j = record { verdict = checked_as j.verdict; reports = j.reports }
-
-abbrev pub reported_as : Reported → Answer Report
-reported_as (reported.Given r) = given r
-reported_as (reported.Refused number place) = refused number place
+-- the code's answer
+abbrev pub judged_as : Result Judged Refusal → Judgement
+judged_as (Ok j) = record { verdict = given j.library; reports = j.reports }
+judged_as (Err r) = record { verdict = refused (number_of r.reason) r.place; reports = replicate 16 no_report }

@@ -1,8 +1,8 @@
 -- The words of a library, and refusals 9 to 12 (document 01, 'Numbers given back').
 -- Assumes nothing.
-use Rattle.std.specs.Prelude.{ℕ, ◌+◌, min, Bool, true, false, ◌||◌, List, leb, ltb, length, get_or}
+use Rattle.std.specs.Prelude.{ℕ, ◌+◌, min, Bool, true, false, ◌||◌, List, leb, ltb, length, get_or, Option, Some, None}
 use Rattle.answer.specs.Faults.{fault_if, or_else, first_in}
-use Rattle.answer.specs.declared.Fault.{Fault}
+use Rattle.answer.specs.Faults.{Fault}
 use Rattle.binary.specs.Addresses.{word_address, offset_of_word}
 use Rattle.binary.specs.Bytes.{u32_at}
 use Rattle.container.specs.declared.placement.Table.{Table}
@@ -11,9 +11,6 @@ use Rattle.instruction.specs.Operands.{descriptor_of, operators_of}
 use Rattle.instruction.specs.declared.flow_control.Control.{Control}
 use Rattle.instruction.specs.declared.flow_control.Control.TheVariants.{Unknown, Plain, Emit, End, Break, If, Loop, Call, Jump}
 use Rattle.instruction.specs.declared.operand.CompareOperators.{CompareOperators}
-use Rattle.instruction.specs.declared.operand.CompareOperators.TheVariants.{Compares, None}
-use Rattle.instruction.specs.declared.operand.DescriptorId.{DescriptorId}
-use Rattle.instruction.specs.declared.operand.DescriptorId.TheVariants.{Id, Unused}
 use Rattle.verifier.specs.Lists.{list_of, filled}
 
 -- word p of the opcode table
@@ -41,14 +38,14 @@ is_unknown (Call c dst num) = false
 is_unknown (Jump c dst num) = false
 
 -- 10: compare operator 6 or 7
-abbrev pub bad_operators : CompareOperators → Bool
-bad_operators (Compares x y) = ltb 5 x || ltb 5 y
+abbrev pub bad_operators : Option CompareOperators → Bool
+bad_operators (Some o) = ltb 5 o.x || ltb 5 o.y
 bad_operators None = false
 
 -- 11: descriptor ID not in the table
-abbrev pub undescribed : ℕ → DescriptorId → Bool
-undescribed descriptors (Id n) = leb descriptors n
-undescribed descriptors Unused = false
+abbrev pub undescribed : ℕ → Option ℕ → Bool
+undescribed descriptors (Some n) = leb descriptors n
+undescribed descriptors None = false
 
 -- 12: LOOP register over 3
 abbrev pub bad_register : Control → Bool

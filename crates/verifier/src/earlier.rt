@@ -1,15 +1,16 @@
 // What was found of the executable judged before. Good entries at the same bytes, the names of the same symbol table and the flow of the same main are taken over:
 // sixteen executables may share every table, and a main.
 ghost use Rattle.std.specs.Prelude.{◌≡◌};
-ghost use Rattle.flow.specs.Flow.{flowed, flow_answer};
+ghost use Rattle.answer.specs.Answers.{answered};
+ghost use Rattle.flow.specs.Flow.{flow_answer};
 ghost use Rattle.tables.specs.Names.{names_end};
 ghost use Rattle.verifier.specs.Executables.{symbols_of};
 ghost use Rattle.verifier.specs.Inside.{good_in, no_executable, Known};
 
-use crate::words::least;
+use answer::Refusal;
 use binary::{ByteOffset, Range, WordAddress, bytes_of};
 use container::{Executable, Table};
-use flow::{Flow, flow_of};
+use flow::{Measured, flow_of};
 use tables::names_end;
 
 // An executable whose entries are all good, where the good names of its symbol table end, and its flow.
@@ -17,7 +18,7 @@ use tables::names_end;
 pub struct Earlier {
     pub executable: Executable,
     pub names: u64,
-    pub flow: Flow,
+    pub flow: Result<Measured, Refusal>,
 }
 
 // Where the good names of a symbol table end.
@@ -73,8 +74,8 @@ pub(crate) fn none_earlier(file: &[u8], words: &[u32]) -> Earlier
 pub(crate) fn good_in(same_names: bool, good: Table, table: Table) -> u32
     ensures { result ≡ good_in same_names good table }
 {
-    if same_names & (good.start.0 == table.start.0) {
-        least(good.count, table.count)
+    if same_names & (good.start == table.start) {
+        good.count.min(table.count)
     } else {
         0
     }
@@ -86,7 +87,7 @@ pub(crate) fn names_after(file: &[u8], earlier: Earlier, symbols: Table) -> u64
     ensures { result ≡ names_end (symbols_of file.now symbols) }
 {
     let before = earlier.executable.symbols;
-    if (before.start.0 == symbols.start.0) & (before.count == symbols.count) {
+    if (before.start == symbols.start) & (before.count == symbols.count) {
         earlier.names
     } else {
         names_end_of(file, symbols)
@@ -94,12 +95,16 @@ pub(crate) fn names_after(file: &[u8], earlier: Earlier, symbols: Table) -> u64
 }
 
 // The flow check of an executable's main: as before, if it is the earlier executable's, of the same type.
-pub(crate) fn flow_after(words: &[u32], earlier: Earlier, e: Executable) -> Flow
-    requires { flowed earlier.flow ≡ flow_answer words.now earlier.executable.shader_type earlier.executable.main.0 earlier.executable.endmain.0 }
-    ensures { flowed result ≡ flow_answer words.now e.shader_type e.main.0 e.endmain.0 }
+pub(crate) fn flow_after(
+    words: &[u32],
+    earlier: Earlier,
+    e: Executable,
+) -> Result<Measured, Refusal>
+    requires { answered earlier.flow ≡ flow_answer words.now earlier.executable.shader_type earlier.executable.main.0 earlier.executable.endmain.0 }
+    ensures { answered result ≡ flow_answer words.now e.shader_type e.main.0 e.endmain.0 }
 {
     let before = earlier.executable;
-    let same_main = (before.main.0 == e.main.0) & (before.endmain.0 == e.endmain.0);
+    let same_main = (before.main == e.main) & (before.endmain == e.endmain);
     if same_main & (before.shader_type == e.shader_type) {
         earlier.flow
     } else {

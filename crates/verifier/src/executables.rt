@@ -1,17 +1,18 @@
 // The executables of a library: refusals 13 to 28, and their reports.
 ghost use Rattle.std.specs.Prelude.{◌≡◌, ◌+◌, ◌*◌, ◌-◌, ◌≤◌};
-ghost use Rattle.answer.specs.Answers.{given};
+ghost use Rattle.answer.specs.Answers.{given, answered};
 ghost use Rattle.answer.specs.Faults.{first_in};
 ghost use Rattle.verifier.specs.Executables.{entry_at, one_executable, no_report, report_with, report_of};
 ghost use Rattle.verifier.specs.Lists.{filled};
-ghost use Rattle.verifier.specs.Inside.{Loaded, judged_by};
+ghost use Rattle.verifier.specs.Inside.{Loaded};
+ghost use Rattle.verifier.specs.Verdict.{answer_by};
 
 use crate::earlier::{Earlier, flow_after, good_in, names_after, none_earlier};
-use crate::verdict::{Checked, Judged, Library, Report, no_report, refused};
-use answer::Fault;
+use crate::verdict::{Library, Report, no_report};
+use answer::Refusal;
 use binary::{ByteOffset, tail};
 use container::{Executable, Table, executable_fault, executable_of};
-use flow::Flow;
+use flow::Measured;
 use tables::{constant_fault, label_fault, output_fault, uniform_fault};
 
 // The bytes of a table from an entry on.
@@ -22,8 +23,9 @@ fn entry_of(file: &[u8], table: Table, size: u64, entry: u32) -> &[u8]
     tail(file, ByteOffset(table.start.0 + entry as u64 * size))
 }
 
-fn report_with(e: Executable, total: u32, words: u32) -> Report
-    ensures { result ≡ report_with e (given (record { total = total; words = words })) }
+#[tactic(auto, using(crate::proofs::Ones::ones_in_lem))]
+fn report_with(e: Executable, measured: Measured) -> Report
+    ensures { result ≡ report_with e (given measured) }
 {
     let main = e.main;
     let endmain = e.endmain;
@@ -34,35 +36,31 @@ fn report_with(e: Executable, total: u32, words: u32) -> Report
         inputs: u16::count_ones(e.input_mask),
         outputs: u16::count_ones(e.output_mask),
         constants: e.constants.count,
-        words,
-        total,
+        words: measured.words,
+        total: measured.total,
     }
 }
 
 // 13 to 28 of the executables from `first` up to `end`, in their order, and the reports of these: one executable alone is a range of one.
-// Good entries, names and the flow are taken over from the executable before, where it has the same. `Accepted` says that these have no fault; of the others it says nothing.
+// Good entries, names and the flow are taken over from the executable before, where it has the same. Reports are answered where these have no fault; of the others that says nothing.
 pub(crate) fn judge_executables(
     file: &[u8],
     library: Library,
     words: &[u32],
     first: u32,
     end: u32,
-) -> Judged
+) -> Result<[Report; 16], Refusal>
     requires { Loaded file.now library words.now × (end ≤ 16) }
-    ensures { result ≡ judged_by (first_in (one_executable file.now library.program) first (end - first)) library (filled (report_of file.now library.program) first 16 (end - first) no_report) }
+    ensures { answered result ≡ answer_by (first_in (one_executable file.now library.program) first (end - first)) (filled (report_of file.now library.program) first 16 (end - first) no_report) }
 {
     let count = library.program.words.count;
-    let mut found = Fault::Nothing;
+    let mut found = Ok(());
     let mut reports = [no_report(); 16];
     let mut earlier = none_earlier(file, words);
     'executables: for index in first..end {
         let place = index * 65536;
         found = executable_fault(file, library.program.words, index, 1, place);
-        if let Fault::At {
-            number: _,
-            place: _,
-        } = found
-        {
+        if found.is_err() {
             break 'executables;
         }
         let e = executable_of(file, index);
@@ -72,11 +70,7 @@ pub(crate) fn judge_executables(
         let known = good_in(true, good.constants, e.constants);
         for entry in known..e.constants.count {
             found = constant_fault(entry_of(file, e.constants, 20, entry), place + entry);
-            if let Fault::At {
-                number: _,
-                place: _,
-            } = found
-            {
+            if found.is_err() {
                 break 'executables;
             }
         }
@@ -88,48 +82,33 @@ pub(crate) fn judge_executables(
                 names,
                 place + entry,
             );
-            if let Fault::At {
-                number: _,
-                place: _,
-            } = found
-            {
+            if found.is_err() {
                 break 'executables;
             }
         }
         let known = good_in(true, good.outputs, e.outputs);
         for entry in known..e.outputs.count {
             found = output_fault(entry_of(file, e.outputs, 8, entry), place + entry);
-            if let Fault::At {
-                number: _,
-                place: _,
-            } = found
-            {
+            if found.is_err() {
                 break 'executables;
             }
         }
         let known = good_in(same_names, good.uniforms, e.uniforms);
         for entry in known..e.uniforms.count {
             found = uniform_fault(entry_of(file, e.uniforms, 8, entry), names, place + entry);
-            if let Fault::At {
-                number: _,
-                place: _,
-            } = found
-            {
+            if found.is_err() {
                 break 'executables;
             }
         }
         let flow = flow_after(words, earlier, e);
         match flow {
-            Flow::Refused { number, word } => {
-                found = Fault::At {
-                    number,
-                    place: place + word,
-                };
+            Err(refusal) => {
+                found = Err(refusal.reason.at(place + refusal.place));
                 break 'executables;
             }
-            Flow::Passed { total, words } => {
+            Ok(measured) => {
                 let i = (index - first) as usize;
-                reports[i] = report_with(e, total, words);
+                reports[i] = report_with(e, measured);
                 earlier = Earlier {
                     executable: e,
                     names,
@@ -138,11 +117,6 @@ pub(crate) fn judge_executables(
             }
         }
     }
-    match found {
-        Fault::At { number, place } => refused(number, place),
-        Fault::Nothing => Judged {
-            verdict: Checked::Accepted(library),
-            reports,
-        },
-    }
+    found?;
+    Ok(reports)
 }

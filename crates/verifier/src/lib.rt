@@ -8,5 +8,5 @@ mod verdict;
 mod words;
 
 pub use earlier::Earlier;
-pub use verdict::{Checked, Judged, Library, Report, Reported, check, judge, report_of};
+pub use verdict::{Judged, Library, Report, check, judge, report_of};
 pub use words::words_of;

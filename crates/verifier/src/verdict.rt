@@ -1,13 +1,13 @@
 // The verdict on a whole library, and the reports of its executables.
 ghost use Rattle.std.specs.Prelude.{◌≡◌};
+ghost use Rattle.answer.specs.Answers.{answered};
 ghost use Rattle.verifier.specs.Executables.{no_report};
-ghost use Rattle.verifier.specs.Inside.{refused_by};
 ghost use Rattle.verifier.specs.Promise.{AcceptsClean, Promises, PromisesAll};
-ghost use Rattle.verifier.specs.Verdict.{check_of, checked_as, judge_of, judged_as, report_answer, reported_as};
+ghost use Rattle.verifier.specs.Verdict.{check_of, judge_of, judged_as, report_answer};
 
 use crate::executables::judge_executables;
 use crate::words::{load_words, words_fault};
-use answer::Fault;
+use answer::{Reason, Refusal};
 use binary::WordAddress;
 use container::{Limits, Program, executable_count, library_fault, program_of};
 
@@ -16,12 +16,6 @@ use container::{Limits, Program, executable_count, library_fault, program_of};
 pub struct Library {
     pub executables: u32,
     pub program: Program,
-}
-
-#[derive(Clone, Copy)]
-pub enum Checked {
-    Accepted(Library),
-    Refused { number: u32, place: u32 },
 }
 
 // The report of an executable: its type, main and endmain, the ones in its input and output masks, its constants, the distinct words visited, the total.
@@ -37,16 +31,10 @@ pub struct Report {
     pub total: u32,
 }
 
-#[derive(Clone, Copy)]
-pub enum Reported {
-    Given(Report),
-    Refused { number: u32, place: u32 },
-}
-
-// The verdict, and the report of each executable; zeros where there is none, and for a refused library.
+// An accepted library, and the report of each executable; zeros where there is none.
 #[derive(Clone, Copy)]
 pub struct Judged {
-    pub verdict: Checked,
+    pub library: Library,
     pub reports: [Report; 16],
 }
 
@@ -65,17 +53,8 @@ pub(crate) fn no_report() -> Report
     }
 }
 
-pub(crate) fn refused(number: u32, place: u32) -> Judged
-    ensures { result ≡ refused_by number place }
-{
-    Judged {
-        verdict: Checked::Refused { number, place },
-        reports: [no_report(); 16],
-    }
-}
-
 // One pass over the library: 1 to 8, then 9 to 12, then 13 to 28 of each executable.
-pub fn judge(file: &[u8]) -> Judged
+pub fn judge(file: &[u8]) -> Result<Judged, Refusal>
     ensures answers { judged_as result ≡ judge_of file.now }
     ensures runs { PromisesAll file.now result }
 {
@@ -83,53 +62,40 @@ pub fn judge(file: &[u8]) -> Judged
         words: 512,
         descriptors: 128,
     };
-    if let Fault::At { number, place } = library_fault(file, limits) {
-        return refused(number, place);
-    }
+    library_fault(file, limits)?;
     let program = program_of(file);
     let executables = executable_count(file);
     let count = program.words.count as usize;
     let mut loaded = [0u32; 512];
     load_words(file, program.words, &mut loaded);
     let words = &loaded[..count];
-    if let Fault::At { number, place } = words_fault(words, program.descriptors.count) {
-        return refused(number, place);
-    }
+    words_fault(words, program.descriptors.count)?;
     let library = Library {
         executables,
         program,
     };
-    judge_executables(file, library, words, 0, executables)
+    let reports = judge_executables(file, library, words, 0, executables)?;
+    Ok(Judged { library, reports })
 }
 
 // The whole check.
-pub fn check(file: &[u8]) -> Checked
-    ensures answers { checked_as result ≡ check_of file.now }
+pub fn check(file: &[u8]) -> Result<Library, Refusal>
+    ensures answers { answered result ≡ check_of file.now }
     ensures exactly { AcceptsClean file.now result }
 {
-    judge(file).verdict
+    let accepted = judge(file)?;
+    Ok(accepted.library)
 }
 
 // The whole check, then 29 for an executable that is not there, else its report.
-pub fn report_of(file: &[u8], executable: u32) -> Reported
-    ensures answers { reported_as result ≡ report_answer file.now executable }
+pub fn report_of(file: &[u8], executable: u32) -> Result<Report, Refusal>
+    ensures answers { answered result ≡ report_answer file.now executable }
     ensures runs { Promises file.now executable result }
 {
-    let judged = judge(file);
-    let verdict = judged.verdict;
-    match verdict {
-        Checked::Refused { number, place } => Reported::Refused { number, place },
-        Checked::Accepted(library) => {
-            if executable < library.executables {
-                let reports = judged.reports;
-                let i = executable as usize;
-                Reported::Given(reports[i])
-            } else {
-                Reported::Refused {
-                    number: 29,
-                    place: 0,
-                }
-            }
-        }
+    let judged = judge(file)?;
+    if judged.library.executables <= executable {
+        return Err(Reason::NotThere.at(0));
     }
+    let reports = judged.reports;
+    Ok(reports[executable as usize])
 }

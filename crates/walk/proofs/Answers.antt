@@ -9,7 +9,10 @@ use lib.Dec.{ltb}
 use lib.ListN.{length, get_or}
 use lib.Seq.{sets}
 use borrow.Author.Tests.{lt-ltb, le-ltb}
-use Rattle.answer.specs.Answers.{given}
+use Rattle.std.specs.Prelude.{Result, Ok, Err}
+use Rattle.answer.specs.declared.Refusal.{Refusal}
+use Rattle.answer.specs.declared.reason.Reason.TheVariants.{NotThere, BufferTooShort}
+use Rattle.answer.specs.Answers.{answered, given}
 use Rattle.container.specs.Executable.{executable_of}
 use Rattle.container.specs.Program.{program_of}
 use Rattle.flow.specs.Rules.{Code}
@@ -21,16 +24,11 @@ use Rattle.verifier.proofs.Promise.{promised}
 use Rattle.verifier.proofs.Taken.{Taken, refused_check}
 use Rattle.verifier.specs.Executables.{report_of}
 use Rattle.verifier.specs.Promise.{code_for, start_for}
-use Rattle.verifier.specs.Verdict.{check_of, checked_as, library_of}
+use Rattle.verifier.specs.Verdict.{check_of, library_of}
 use Rattle.verifier.specs.Words.{word_at, words_of}
-use Rattle.verifier.specs.declared.verdict.Checked.{Checked}
-use Rattle.verifier.specs.declared.verdict.Checked.TheVariants.{Refused}
 use Rattle.verifier.specs.declared.verdict.Library.{Library}
-use Rattle.walk.specs.Inside.{refusal_in, Runs, fetches_by}
-use Rattle.walk.specs.Walk.{settings_of, run_of, fetches_in, walk_fetches, RunsWhole, steps_of, written_to, walked_as}
-use Rattle.walk.specs.declared.refusal.Refusal.{Refusal}
-use Rattle.walk.specs.declared.walking.Walked.{Walked}
-use Rattle.walk.specs.declared.walking.Walked.TheVariants as walked
+use Rattle.walk.specs.Inside.{Runs, fetches_by}
+use Rattle.walk.specs.Walk.{settings_of, run_of, fetches_in, walk_fetches, RunsWhole, steps_of, written_to}
 use Rattle.walk.proofs.Running.{run_same}
 
 -- a run that ends makes the same steps with a larger bound
@@ -64,21 +62,21 @@ module _ (file : List ℕ) (index : ℕ) (bools ints truth : List ℕ) where
   e = (executable_of file index).endmain.0
 
   -- what the contract says of an answer and a final list
-  abbrev pub Told : Walked → List ℕ → List ℕ → Type 0
+  abbrev pub Told : Result ℕ Refusal → List ℕ → List ℕ → Type 0
   Told r old list =
-      (walked_as r ≡ steps_of (walk_fetches file index bools ints truth)) × ((list ≡ written_to old (walk_fetches file index bools ints truth)) × RunsWhole file index bools ints truth r)
+      (answered r ≡ steps_of (walk_fetches file index bools ints truth)) × ((list ≡ written_to old (walk_fetches file index bools ints truth)) × RunsWhole file index bools ints truth r)
 
-  no_steps : {n q : ℕ} → RunsWhole file index bools ints truth (walked.Refused n q)
+  no_steps : {f : Refusal} → RunsWhole file index bools ints truth (Err f)
   no_steps k h = absurd (let z : ◌≡◌ {A = ℕ} 0 1 = cc in omega arith)
 
-  pub walk_refused : {r : Checked} {f : Refusal} {n q : ℕ} (old : List ℕ) → checked_as r ≡ check_of file → r ≡ Refused n q → f ≡ refusal_in r → Told (walked.Refused f.number f.place) old old
+  pub walk_refused : {r : Result Library Refusal} {f : Refusal} (old : List ℕ) → answered r ≡ check_of file → r ≡ Err f → Told (Err f) old old
   unfolding walk_fetches
-  walk_refused old c h f = let a = refused_check file c h in (rw (f, h, a), (rw a, no_steps))
+  walk_refused old c h = let a = refused_check file c h in (rw a, (rw a, no_steps))
 
   module _ {l : Library} (t : Taken file l) where
-    pub walk_missing : (old : List ℕ) → l.executables ≤ index → Told (walked.Refused 29 0) old old
+    pub walk_missing : {f : Refusal} (old : List ℕ) → f ≡ record { reason = NotThere; place = 0 } → l.executables ≤ index → Told (Err f) old old
     unfolding walk_fetches
-    walk_missing old h = (rw (t.answer, le-ltb index l.executables h), (rw (t.answer, le-ltb index l.executables h), no_steps))
+    walk_missing old f h = (rw (f, t.answer, le-ltb index l.executables h), (rw (t.answer, le-ltb index l.executables h), no_steps))
 
     module _ (there : index < l.executables) where
       short : (length bools < 16) ⊎ (length ints < 4) → (ltb (length bools) 16 || ltb (length ints) 4) ≡ true
@@ -89,10 +87,10 @@ module _ (file : List ℕ) (index : ℕ) (bools ints truth : List ℕ) where
           either true = refl
           either false = refl
 
-      pub walk_short : (old : List ℕ) → (length bools < 16) ⊎ (length ints < 4) → Told (walked.Refused 30 0) old old
+      pub walk_short : {f : Refusal} (old : List ℕ) → f ≡ record { reason = BufferTooShort; place = 0 } → (length bools < 16) ⊎ (length ints < 4) → Told (Err f) old old
       unfolding walk_fetches
-      walk_short old h =
-          (rw (t.answer, lt-ltb index l.executables there, short h), (rw (t.answer, lt-ltb index l.executables there, short h), no_steps))
+      walk_short old f h =
+          (rw (f, t.answer, lt-ltb index l.executables there, short h), (rw (t.answer, lt-ltb index l.executables there, short h), no_steps))
 
       -- the whole run that the report's total promises
       module _ (bytes : (r : ℕ) → r ≤ 3 → get_or ints r 0 < 256) where
@@ -127,7 +125,7 @@ module _ (file : List ℕ) (index : ℕ) (bools ints truth : List ℕ) where
         answer b i = rw (t.answer, lt-ltb index l.executables there, le-ltb (length bools) 16 b, le-ltb (length ints) 4 i)
 
         pub walk_done : {words : List ℕ} {n : ℕ} {list : List ℕ} (old : List ℕ) → 16 ≤ length bools → 4 ≤ length ints → words ≡ ws
-            → n ≡ length (fetches_by words v m e) → list ≡ sets old 0 (fetches_by words v m e) → Told (walked.Steps n) old list
+            → n ≡ length (fetches_by words v m e) → list ≡ sets old 0 (fetches_by words v m e) → Told (Ok n) old list
         walk_done old b i w n k =
             let a = answer b i in
             (rw (a, n, w, fetches), (rw (a, k, w, fetches), λ x h. whole))

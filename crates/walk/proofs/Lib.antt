@@ -2,6 +2,6 @@ pub mod Trials
 pub mod Regions
 pub mod Steps
 pub mod Running
-pub mod Settings
+pub mod Truths
 pub mod Answers
 pub mod Handing

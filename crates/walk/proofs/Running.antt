@@ -2,6 +2,7 @@
 use mathlib.Core.Path.{◌≡◌, refl, sym, ap, ◌∙◌}
 use mathlib.Core.Bool.{Bool, true, false, ◌&&◌}
 use mathlib.Core.List.{List, [], ◌∷◌, ◌++◌, append_assoc, append-nil}
+use Rattle.std.proofs.Common.{Option, Some, None}
 use Prim.Native.Nat.{ℕ, zero, suc, ◌+◌, ◌≤◌, ◌<◌}
 use native.Mathlib.Omega.{arith}
 use lib.Dec.{ltb}
@@ -16,10 +17,11 @@ use Rattle.instruction.specs.Control.{control_of}
 use Rattle.instruction.specs.declared.flow_control.Control.{Control}
 use Rattle.instruction.specs.declared.flow_control.Control.TheVariants.{Plain}
 use Rattle.verifier.proofs.Lists.{filled_at, sets_append}
-use Rattle.walk.specs.Inside.{Frame, frame, shown, standing, view, move_of, ending, arrive_by, read_by, controls_of, Runs, fetches_by}
+use Rattle.walk.specs.Inside.{frame, shown, standing, view, move_of, arrive_by, controls_of, Runs, fetches_by}
+use Rattle.walk.specs.declared.frames.Frame.{Frame}
 use Rattle.walk.specs.Walk.{indices_of, fetches_in}
 use Rattle.walk.specs.declared.moves.Move.{Move}
-use Rattle.walk.proofs.Steps.{Follows, halts, follows, shown_few}
+use Rattle.walk.proofs.Steps.{Leads, Follows, halts, follows, shown_few}
 
 words_length : (l : List State) → length (indices_of l) ≡ length l
 words_length [] = refl
@@ -34,6 +36,13 @@ control_at ws i d h =
 unstuck : (b : Bool) {e x : Next} → pick b e stuck ≡ x → (stuck ≡ x → ⊥) → e ≡ x
 unstuck true h f = h
 unstuck false h f = absurd (f h)
+
+-- what the engine's arithmetic needs before each step
+pub record Bounds (fs : List Frame) (word read steps : ℕ) : Type 0 where
+  pub inside : word < 512
+  pub shallow : length fs < 16
+  pub few : read ≤ steps
+  pub early : steps < 4000000
 
 module _ (ws : List ℕ) (v : Settings) where
   abbrev C : Code
@@ -122,15 +131,15 @@ module _ (ws : List ℕ) (v : Settings) where
       good = head g.kept
 
       -- the word is in the table, few regions are open, and there is more to fetch than was
-      pub word_inside : word < length ws
+      word_inside : word < length ws
       word_inside = rw here good.inside
 
-      pub shallow : length fs ≤ 15
+      shallow : length fs ≤ 15
       shallow =
           let e : length fs ≡ length (shown g.state.opens) = ap (λ s. length s.frames) g.seen in
           omega (arith, e, shown_few g.state.opens, good.few_calls, good.few_ifs, good.few_loops)
 
-      pub early : steps < length all
+      early : steps < length all
       early =
           let e : length all ≡ length g.before + suc (length (indices_of g.rest)) = ap length g.whole ∙ length-append g.before (indices_of (g.state ∷ g.rest)) in
           omega (arith, e, g.made)
@@ -144,24 +153,24 @@ module _ (ws : List ℕ) (v : Settings) where
       fetched : {l : List State} → g.rest ≡ l → all ≡ g.before ++ word ∷ [] ++ indices_of l
       fetched e = g.whole ∙ rw (here, e) (sym (append_assoc g.before (g.state.word ∷ []) _))
 
-      abbrev moved : Move
+      abbrev moved : Option (Move × ℕ)
       moved = move_of v (control_of (get_or ws word 0)) word read
 
-      pub moved_is : {controls : List Control} {m : Move} (d : Control) → controls ≡ controls_of ws → m ≡ move_of v (get_or controls word d) word read → moved ≡ m
+      pub moved_is : {controls : List Control} {a : Option (Move × ℕ)} (d : Control) → controls ≡ controls_of ws → a ≡ move_of v (get_or controls word d) word read → moved ≡ a
       moved_is d e h = sym (h ∙ rw (e, control_at ws word d word_inside))
 
       follow : Follows (shown g.state.opens) read (executed g.state) moved
       follow = rw (here, sym g.count) (follows v (control_of (get_or ws g.state.word 0)) g.state.word g.state.opens g.state.read)
 
-      -- a move that is not END leads to the next state
-      pub goes_on : {m : Move} {fs' : List Frame} {word' read' : ℕ} {list' : List ℕ} → moved ≡ m → ending m ≡ false → standing word' fs' ≡ arrive_by fs m → read' ≡ read_by m
+      -- a move leads to the next state
+      pub goes_on : {m : Move} {read' : ℕ} {fs' : List Frame} {word' : ℕ} {list' : List ℕ} → moved ≡ Some (m, read') → standing word' fs' ≡ arrive_by fs m
           → list' ≡ set list steps word → Going fs' word' read' (steps + 1) list'
-      goes_on {m} {fs'} {word'} {read'} {list'} e f a b d = by (then_on g.bound g.state g.runs) g.kept
+      goes_on {m} {read'} {fs'} {word'} {list'} e a d = by (then_on g.bound g.state g.runs) g.kept (rw e at follow)
         where
-          by : Then g.state g.rest → All (Good (code_of ws g.descriptors) 4 8 2) (g.state ∷ g.rest) → Going fs' word' read' (steps + 1) list'
-          by (last x r) k = absurd (true_not_false (sym (ap halts x) ∙ follow.end ∙ ap ending e ∙ f))
-          by (more n t l x r q) k =
-              let shows = follow.next t x in
+          by : Then g.state g.rest → All (Good (code_of ws g.descriptors) 4 8 2) (g.state ∷ g.rest) → Leads (shown g.state.opens) read (executed g.state) m read' → Going fs' word' read' (steps + 1) list'
+          by (last x r) k leads = absurd (true_not_false (sym (ap halts x) ∙ leads.on))
+          by (more n t l x r q) k leads =
+              let shows = leads.next t x in
               let frames : fs ≡ shown g.state.opens = ap (λ y. y.frames) g.seen in
               record {
                 descriptors = g.descriptors;
@@ -170,9 +179,9 @@ module _ (ws : List ℕ) (v : Settings) where
                 bound = n;
                 runs = q;
                 kept = rw r at (tail k);
-                seen = a ∙ rw (frames, sym e) shows.seen;
-                count = shows.count ∙ ap read_by e ∙ sym b;
-                few = let h : read_by m ≤ read + 1 = rw e at follow.few in omega (arith, g.few, b);
+                seen = a ∙ rw frames shows.seen;
+                count = shows.count;
+                few = omega (arith, g.few, leads.few);
                 before = g.before ++ word ∷ [];
                 made = length-append g.before (word ∷ []) ∙ omega (arith, g.made);
                 whole = fetched r;
@@ -180,14 +189,14 @@ module _ (ws : List ℕ) (v : Settings) where
               }
 
       -- END is the last word
-      pub ended : {m : Move} → moved ≡ m → ending m ≡ true → (steps + 1 ≡ length all) × (set list steps word ≡ sets old 0 all)
-      ended {m} e f = by (then_on g.bound g.state g.runs)
+      pub ended : moved ≡ None → (steps + 1 ≡ length all) × (set list steps word ≡ sets old 0 all)
+      ended e = by (then_on g.bound g.state g.runs) (rw e at follow)
         where
-          by : Then g.state g.rest → (steps + 1 ≡ length all) × (set list steps word ≡ sets old 0 all)
-          by (last x r) =
+          by : Then g.state g.rest → halts (executed g.state) ≡ true → (steps + 1 ≡ length all) × (set list steps word ≡ sets old 0 all)
+          by (last x r) h =
               let w : all ≡ g.before ++ word ∷ [] = fetched r ∙ append-nil (g.before ++ word ∷ []) in
               (omega (arith, ap length w, length-append g.before (word ∷ []), g.made), noted ∙ ap (sets old 0) (sym w))
-          by (more n t l x r q) = absurd (true_not_false (sym (sym (ap halts x) ∙ follow.end ∙ ap ending e ∙ f)))
+          by (more n t l x r q) h = absurd (true_not_false (sym h ∙ ap halts x))
 
   -- the beginning: main alone is open, and nothing is fetched
   module _ (m e : ℕ) (r : Runs ws v m e) where
@@ -195,8 +204,16 @@ module _ (ws : List ℕ) (v : Settings) where
     unfolding fetches_by
     all_is = ap fetches_in (sym (run_same r.descriptors 4000000 (start m e)) ∙ r.whole.ends)
 
-    pub few_steps : length (fetches_by ws v m e) ≤ 4000000
+    few_steps : length (fetches_by ws v m e) ≤ 4000000
     few_steps = omega (arith, ap length all_is, words_length r.whole.fetched, r.whole.steps)
+
+    pub bounds : {old : List ℕ} {fs : List Frame} {word read steps : ℕ} {list : List ℕ} → Going (fetches_by ws v m e) old fs word read steps list → Bounds fs word read steps
+    bounds g = record {
+      inside = omega (arith, word_inside _ _ g, r.few);
+      shallow = omega (arith, shallow _ _ g);
+      few = g.few;
+      early = omega (arith, early _ _ g, few_steps);
+    }
 
     pub begins : (old : List ℕ) {fs : List Frame} → fs ≡ frame e e 0 ∷ [] → Going (fetches_by ws v m e) old fs m 0 0 old
     begins old a =

@@ -2,6 +2,7 @@
 use mathlib.Core.Path.{◌≡◌, refl, sym, ap}
 use mathlib.Core.Bool.{Bool, true, false, not}
 use mathlib.Core.List.{List, [], ◌∷◌}
+use Rattle.std.proofs.Common.{Option, Some, None}
 use Prim.Native.Nat.{ℕ, zero, suc, ◌+◌, ◌-◌, ◌≤◌}
 use native.Mathlib.Omega.{arith}
 use lib.Dec.{eqb, leb, ltb}
@@ -14,7 +15,8 @@ use Rattle.instruction.specs.declared.flow_control.Condition.{Condition}
 use Rattle.instruction.specs.declared.flow_control.Condition.TheVariants.{Always, Compared, Uniform}
 use Rattle.instruction.specs.declared.flow_control.Control.{Control}
 use Rattle.instruction.specs.declared.flow_control.Control.TheVariants.{Unknown, Plain, Emit, End, Break, If, Loop, Call, Jump}
-use Rattle.walk.specs.Inside.{Frame, frame, shown, Standing, standing, closing, leaving, view, move_of, ending, arrive_by, read_by}
+use Rattle.walk.specs.Inside.{frame, shown, Standing, standing, closing, leaving, view, move_loop, move_of, arrive_by}
+use Rattle.walk.specs.declared.frames.Frame.{Frame}
 use Rattle.walk.specs.declared.moves.Move.{Move}
 use Rattle.walk.specs.declared.moves.Move.TheVariants as move
 
@@ -83,23 +85,27 @@ halts ends = true
 halts stuck = false
 halts (goes s) = false
 
--- what follows a word is what its move leads to, from these frames on: the next state; the end; and one outcome more is read at most
-pub record Follows (fs : List Frame) (n : ℕ) (x : Next) (m : Move) : Type 0 where
-  pub next : (s : State) → x ≡ goes s → Shows (read_by m) (arrive_by fs m) s
-  pub end : halts x ≡ ending m
-  pub few : read_by m ≤ n + 1
+-- a word that goes on: what follows is what its move leads to, from these frames on, with so many outcomes read, one more at most
+pub record Leads (fs : List Frame) (n : ℕ) (x : Next) (m : Move) (k : ℕ) : Type 0 where
+  pub next : (s : State) → x ≡ goes s → Shows k (arrive_by fs m) s
+  pub on : halts x ≡ false
+  pub few : k ≤ n + 1
 
-by_truth : {fs : List Frame} {n : ℕ} (b : Bool) {x y : Next} {m k : Move} → Follows fs n x m → Follows fs n y k → Follows fs n (pick b x y) (pick b m k)
+-- no move: the end
+abbrev pub Follows : List Frame → ℕ → Next → Option (Move × ℕ) → Type 0
+Follows fs n x None = halts x ≡ true
+Follows fs n x (Some a) = Leads fs n x a.0 a.1
+
+by_truth : {fs : List Frame} {n k : ℕ} (b : Bool) {x y : Next} {m m' : Move} → Leads fs n x m k → Leads fs n y m' k → Leads fs n (pick b x y) (pick b m m') k
 by_truth true f g = f
 by_truth false f g = g
 
 -- a word that goes on; one that opens a region; one that leaves a LOOP; one that has no next step
-going : (os : List Open) (p : ℕ) {n k : ℕ} → k ≤ n + 1 → Follows (shown os) n (on k os p) (move.Go p k)
-going os p few = record { next = λ s e. arrived os p e; end = refl; few = few }
+going : (os : List Open) (p : ℕ) {n k : ℕ} → k ≤ n + 1 → Leads (shown os) n (on k os p) (move.Go p) k
+going os p few = record { next = λ s e. arrived os p e; on = refl; few = few }
 
-opening : (os : List Open) (o : Open) {e q t : ℕ} (p : ℕ) {n k : ℕ} → shown (o ∷ os) ≡ frame e q t ∷ shown os → k ≤ n + 1
-    → Follows (shown os) n (on k (o ∷ os) p) (move.Open e q t p k)
-opening os o p f few = record { next = λ s e. rw f at (arrived (o ∷ os) p e); end = refl; few = few }
+opening : (os : List Open) (o : Open) {f : Frame} (p : ℕ) {n k : ℕ} → shown (o ∷ os) ≡ f ∷ shown os → k ≤ n + 1 → Leads (shown os) n (on k (o ∷ os) p) (move.Open f p) k
+opening os o p f few = record { next = λ s e. rw f at (arrived (o ∷ os) p e); on = refl; few = few }
 
 goes_on : (n : ℕ) (os : List Open) → halts (break n os) ≡ false
 unfolding break
@@ -109,11 +115,11 @@ goes_on n (part e q ∷ os) = goes_on n os
 goes_on n (body e s k ∷ os) = refl
 goes_on n (called e q ∷ os) = goes_on n os
 
-leaving_one : (os : List Open) {n k : ℕ} → k ≤ n + 1 → Follows (shown os) n (break k os) (move.Leave k)
-leaving_one os few = record { next = λ s e. left os e; end = goes_on _ os; few = few }
+leaving_one : (os : List Open) {n k : ℕ} → k ≤ n + 1 → Leads (shown os) n (break k os) move.Leave k
+leaving_one os few = record { next = λ s e. left os e; on = goes_on _ os; few = few }
 
-no_step : {fs : List Frame} {n : ℕ} (m : Move) → ending m ≡ false → read_by m ≤ n + 1 → Follows fs n stuck m
-no_step m e few = record { next = λ s h. absurd (let z : ◌≡◌ {A = ℕ} 0 1 = cc in omega arith); end = sym e; few = few }
+no_step : {fs : List Frame} {n : ℕ} (m : Move) → Leads fs n stuck m n
+no_step m = record { next = λ s h. absurd (let z : ◌≡◌ {A = ℕ} 0 1 = cc in omega arith); on = refl; few = omega arith }
 
 reads_few : (c : Condition) (n : ℕ) → reads c n ≤ n + 1
 reads_few Always n = omega arith
@@ -122,10 +128,10 @@ reads_few (Uniform b) n = omega arith
 
 pub follows : (v : Settings) (i : Control) (p : ℕ) (os : List Open) (n : ℕ) → Follows (shown os) n (execute v i p os n) (move_of v i p n)
 unfolding execute
-follows v Unknown p os n = no_step (move.Go (p + 1) n) refl (omega arith)
+follows v Unknown p os n = no_step (move.Go (p + 1))
 follows v Plain p os n = going os (p + 1) (omega arith)
 follows v Emit p os n = going os (p + 1) (omega arith)
-follows v End p os n = record { next = λ s e. absurd (let z : ◌≡◌ {A = ℕ} 0 1 = cc in omega arith); end = refl; few = omega arith }
+follows v End p os n = refl
 follows v (Break c) p os n = by_truth (holds v c n) (leaving_one os (reads_few c n)) (going os (p + 1) (reads_few c n))
 follows v (If c dst num) p os n =
     by_truth (holds v c n)
@@ -133,9 +139,9 @@ follows v (If c dst num) p os n =
     (opening os (part (dst.0 + num) (dst.0 + num)) dst.0 refl (reads_few c n))
 follows v (Loop r dst) p os n = one (leb r 3)
   where
-    one : (b : Bool) → Follows (shown os) n (pick b (on n (body (dst.0 + 1) (p + 1) (v.ints r) ∷ os) (p + 1)) stuck) (move.Open (dst.0 + 1) (p + 1) (v.ints r + 1) (p + 1) n)
+    one : (b : Bool) → Leads (shown os) n (pick b (on n (body (dst.0 + 1) (p + 1) (v.ints r) ∷ os) (p + 1)) stuck) (move_loop (v.ints r) p dst.0) n
     one true = opening os (body (dst.0 + 1) (p + 1) (v.ints r)) (p + 1) refl (omega arith)
-    one false = no_step (move.Open (dst.0 + 1) (p + 1) (v.ints r + 1) (p + 1) n) refl (omega arith)
+    one false = no_step (move_loop (v.ints r) p dst.0)
 follows v (Call c dst num) p os n =
     by_truth (holds v c n) (opening os (called (dst.0 + num) (p + 1)) dst.0 refl (reads_few c n)) (going os (p + 1) (reads_few c n))
 follows v (Jump c dst num) p os n = by_truth (holds v c n) (going os dst.0 (reads_few c n)) (going os (p + 1) (reads_few c n))

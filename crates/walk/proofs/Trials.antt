@@ -18,7 +18,7 @@ use Rattle.instruction.specs.Control.{control_of}
 use Rattle.instruction.specs.Operands.{descriptor_of, operators_of}
 use Rattle.instruction.specs.Operations.{operations, format_of}
 use Rattle.instruction.specs.Words.{decode_of}
-use Rattle.tables.specs.Constants.{constant_if, convert_of, constant_fault}
+use Rattle.tables.specs.Constants.{convert_of, constant_fault}
 use Rattle.tables.specs.Float24.{good_float24, f32_bits}
 use Rattle.tables.specs.Names.{meets0, names_end}
 use Rattle.tables.specs.declared.constants.Constant.TheVariants.{Flag, Bytes, Vector}
@@ -103,5 +103,5 @@ handed : map (constant_answer constants 0) (0 ∷ 1 ∷ 2 ∷ 3 ∷ []) ++ map (
     ∷ refused 29 0
     ∷ refused 17 0
     ∷ []
-unfolding constants check_of whole_fault library_fault header_fault program_fault bad_sizes misplaced_table misplaced overlapped_words words_meet words_fault word_fault one_executable executable_fault misplaced_section bad_entry misplaced_tables overlapped_by_tables flow_of flow_fault main_trace trace trace_to region visit parts fault_at spare size own_words own_from control_of decode_of format_of operations operators_of descriptor_of report_of first_in list_of ones_in names_end meets0 constant_answer constant_fault convert_of constant_if good_float24 f32_bits
+unfolding constants check_of whole_fault library_fault header_fault program_fault bad_sizes misplaced_table misplaced overlapped_words words_meet words_fault word_fault one_executable executable_fault misplaced_section bad_entry misplaced_tables overlapped_by_tables flow_of flow_fault main_trace trace trace_to region visit parts fault_at spare size own_words own_from control_of decode_of format_of operations operators_of descriptor_of report_of first_in list_of ones_in names_end meets0 constant_answer constant_fault convert_of good_float24 f32_bits
 handed = refl

@@ -1,23 +1,20 @@
 -- A constant handed to a caller (document 01, 'Layout of a library', 'Numbers given back').
 -- Assumes nothing.
-use Rattle.std.specs.Prelude.{◌≡◌, List, ℕ}
-use Rattle.answer.specs.Answers.{Answer, given, refused, or_missing}
+use Rattle.std.specs.Prelude.{◌≡◌, List, ℕ, Option, Some, None, Result}
+use Rattle.answer.specs.Answers.{Answer, given, refused, answered, or_missing}
+use Rattle.answer.specs.declared.Refusal.{Refusal}
 use Rattle.container.specs.Executable.{executable_of}
 use Rattle.container.specs.declared.placement.Table.{Table}
 use Rattle.tables.specs.Constants.{entry_of, convert_of}
 use Rattle.tables.specs.declared.constants.Constant.{Constant}
-use Rattle.tables.specs.declared.constants.Converted.{Converted}
-use Rattle.tables.specs.declared.constants.Converted.TheVariants as converted
 use Rattle.verifier.specs.Executables.{entry_at}
 use Rattle.verifier.specs.Verdict.{check_of}
 use Rattle.verifier.specs.declared.verdict.Library.{Library}
-use Rattle.walk.specs.declared.constants.Handed.{Handed}
-use Rattle.walk.specs.declared.constants.Handed.TheVariants as handed
 
 -- 'a bool, four bytes or four f32 values', as `tables` converts an entry. The check before refuses a file with a bad one (`Hands`, below)
-abbrev pub constant_by : Converted → Answer Constant
-constant_by (converted.Constant c) = given c
-constant_by converted.Bad = refused 18 0
+abbrev pub constant_by : Option Constant → Answer Constant
+constant_by (Some c) = given c
+constant_by None = refused 18 0
 
 -- entry n of the constant table; 29: 'executable or constant number not there'
 abbrev pub entry_constant : List ℕ → Table → ℕ → Answer Constant
@@ -32,10 +29,5 @@ unfoldable pub constant_answer : List ℕ → ℕ → ℕ → Answer Constant
 constant_answer file index n = constant_in file index n (check_of file)
 
 -- 18 is never answered after an accepted check
-abbrev pub Hands : List ℕ → Handed → Type 0
-Hands file r = (l : Library) → check_of file ≡ given l → (place : ℕ) → r ≡ handed.Refused 18 place → ⊥
-
--- the code's answer
-abbrev pub handed_as : Handed → Answer Constant
-handed_as (handed.Constant c) = given c
-handed_as (handed.Refused number place) = refused number place
+abbrev pub Hands : List ℕ → Result Constant Refusal → Type 0
+Hands file r = (l : Library) → check_of file ≡ given l → (place : ℕ) → answered r ≡ refused 18 place → ⊥

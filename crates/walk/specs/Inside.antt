@@ -1,6 +1,6 @@
 -- What the functions inside this crate compute and rely on, for their contracts. The rules are in `flow`'s Stepping and in Walk.
 -- Assumes nothing.
-use Rattle.std.specs.Prelude.{◌≡◌, Bool, true, false, not, ◌&&◌, List, [], ◌∷◌, ℕ, zero, suc, ◌+◌, ◌-◌, ◌≤◌, eqb, ltb, length, get_or}
+use Rattle.std.specs.Prelude.{Bool, not, ◌&&◌, List, [], ◌∷◌, Option, Some, None, ℕ, ◌+◌, ◌-◌, ◌≤◌, eqb, ltb, length, get_or}
 use Rattle.flow.specs.Flow.{code_of}
 use Rattle.flow.specs.Rules.{pick}
 use Rattle.flow.specs.Stepping.{Settings, State, Open, main, part, body, called, start, run, holds, reads}
@@ -9,23 +9,17 @@ use Rattle.instruction.specs.Control.{control_of}
 use Rattle.instruction.specs.declared.flow_control.Control.{Control}
 use Rattle.instruction.specs.declared.flow_control.Control.TheVariants.{Unknown, Plain, Emit, End, Break, If, Loop, Call, Jump}
 use Rattle.verifier.specs.Lists.{filled}
-use Rattle.verifier.specs.declared.verdict.Checked.{Checked}
-use Rattle.verifier.specs.declared.verdict.Checked.TheVariants.{Accepted, Refused}
-use Rattle.walk.specs.Walk.{fetches_in}
+use Rattle.walk.specs.Walk.{fetches_in, settings_of}
+use Rattle.walk.specs.declared.frames.Frame.{Frame}
 use Rattle.walk.specs.declared.moves.Move.{Move}
 use Rattle.walk.specs.declared.moves.Move.TheVariants as move
-use Rattle.walk.specs.declared.refusal.Refusal.{Refusal}
+use Rattle.walk.specs.declared.settings.Settings.{Settings as Lent}
 
-abbrev pub refusal_in : Checked → Refusal
-refusal_in (Refused number place) = record { number = number; place = place }
-refusal_in (Accepted l) = record { number = 0; place = 0 }
+-- the settings that a caller lent
+abbrev pub settings_by : Lent → Settings
+settings_by s = settings_of s.bools.now s.ints.now s.truth.now
 
--- an open region in numbers: its end; where the run goes on after it, or a LOOP's first word; the turns of a LOOP that are left, this one with them, and 0 for any other
-pub record Frame : Type 0 where
-  pub end : ℕ
-  pub then : ℕ
-  pub turns : ℕ
-
+-- an open region in numbers, as the code has it: its end; where the run goes on after it, or a LOOP's first word; the turns of a LOOP that are left
 abbrev pub frame : ℕ → ℕ → ℕ → Frame
 frame e q t = record { end = e; then = q; turns = t }
 
@@ -36,15 +30,6 @@ shown (main e ∷ os) = frame e e 0 ∷ []
 shown (part e q ∷ os) = frame e q 0 ∷ shown os
 shown (body e s k ∷ os) = frame e s (k + 1) ∷ shown os
 shown (called e q ∷ os) = frame e q 0 ∷ shown os
-
--- the first n of three arrays as frames, the last of them innermost
-unfoldable pub frames_of : List ℕ → List ℕ → List ℕ → ℕ → List Frame
-frames_of es qs ts zero = []
-frames_of es qs ts (suc n) = frame (get_or es n 0) (get_or qs n 0) (get_or ts n 0) ∷ frames_of es qs ts n
-
--- three arrays of 16, which have room for n
-abbrev pub Room : ℕ → List ℕ → List ℕ → List ℕ → Type 0
-Room n es qs ts = (n ≤ 16) × (length es ≡ 16) × (length qs ≡ 16) × (length ts ≡ 16)
 
 -- a word, and the regions that are open there
 pub record Standing : Type 0 where
@@ -67,58 +52,43 @@ unfoldable pub leaving : List Frame → Standing
 leaving [] = standing 0 []
 leaving (f ∷ fs) = let outer = leaving fs in pick (ltb 0 f.turns) (standing f.end fs) outer
 
--- a state of the stepping rules, as far as the arrays show it
+-- a state of the stepping rules, as far as frames show it
 abbrev pub view : State → Standing
 view s = standing s.word (shown s.opens)
 
--- what a word asks for; `taken` is its truth, n the outcomes read with it
-abbrev pub next_word : ℕ → ℕ → Move
-next_word p n = move.Go (p + 1) n
+-- what a word asks for; `taken` is its truth
+abbrev pub move_break : Bool → ℕ → Move
+move_break taken p = pick taken move.Leave (move.Go (p + 1))
 
-abbrev pub move_break : Bool → ℕ → ℕ → Move
-move_break taken p n = pick taken (move.Leave n) (next_word p n)
+abbrev pub move_if : Bool → ℕ → ℕ → ℕ → Move
+move_if taken p dst num = pick taken (move.Open (frame dst (dst + num) 0) (p + 1)) (move.Open (frame (dst + num) (dst + num) 0) dst)
 
-abbrev pub move_if : Bool → ℕ → ℕ → ℕ → ℕ → Move
-move_if taken p dst num n = pick taken (move.Open dst (dst + num) 0 (p + 1) n) (move.Open (dst + num) (dst + num) 0 dst n)
+abbrev pub move_loop : ℕ → ℕ → ℕ → Move
+move_loop x p dst = move.Open (frame (dst + 1) (p + 1) (x + 1)) (p + 1)
 
-abbrev pub move_loop : ℕ → ℕ → ℕ → ℕ → Move
-move_loop x p dst n = move.Open (dst + 1) (p + 1) (x + 1) (p + 1) n
+abbrev pub move_call : Bool → ℕ → ℕ → ℕ → Move
+move_call taken p dst num = pick taken (move.Open (frame (dst + num) (p + 1) 0) dst) (move.Go (p + 1))
 
-abbrev pub move_call : Bool → ℕ → ℕ → ℕ → ℕ → Move
-move_call taken p dst num n = pick taken (move.Open (dst + num) (p + 1) 0 dst n) (next_word p n)
+abbrev pub move_jump : Bool → ℕ → ℕ → Move
+move_jump taken p dst = pick taken (move.Go dst) (move.Go (p + 1))
 
-abbrev pub move_jump : Bool → ℕ → ℕ → ℕ → Move
-move_jump taken p dst n = pick taken (move.Go dst n) (next_word p n)
+-- the same for each word after n outcomes, with the outcomes read then; none at END
+abbrev pub move_of : Settings → Control → ℕ → ℕ → Option (Move × ℕ)
+move_of v Unknown p n = Some (move.Go (p + 1), n)
+move_of v Plain p n = Some (move.Go (p + 1), n)
+move_of v Emit p n = Some (move.Go (p + 1), n)
+move_of v End p n = None
+move_of v (Break c) p n = Some (move_break (holds v c n) p, reads c n)
+move_of v (If c dst num) p n = Some (move_if (holds v c n) p dst.0 num, reads c n)
+move_of v (Loop r dst) p n = Some (move_loop (v.ints r) p dst.0, n)
+move_of v (Call c dst num) p n = Some (move_call (holds v c n) p dst.0 num, reads c n)
+move_of v (Jump c dst num) p n = Some (move_jump (holds v c n) p dst.0, reads c n)
 
-abbrev pub move_of : Settings → Control → ℕ → ℕ → Move
-move_of v Unknown p n = next_word p n
-move_of v Plain p n = next_word p n
-move_of v Emit p n = next_word p n
-move_of v End p n = move.End
-move_of v (Break c) p n = move_break (holds v c n) p (reads c n)
-move_of v (If c dst num) p n = move_if (holds v c n) p dst.0 num (reads c n)
-move_of v (Loop r dst) p n = move_loop (v.ints r) p dst.0 n
-move_of v (Call c dst num) p n = move_call (holds v c n) p dst.0 num (reads c n)
-move_of v (Jump c dst num) p n = move_jump (holds v c n) p dst.0 (reads c n)
-
-abbrev pub ending : Move → Bool
-ending move.End = true
-ending (move.Go w n) = false
-ending (move.Leave n) = false
-ending (move.Open e q t w n) = false
-
--- what a move leads to, and the outcomes read then. At END nothing follows
+-- what a move leads to
 abbrev pub arrive_by : List Frame → Move → Standing
-arrive_by fs move.End = standing 0 []
-arrive_by fs (move.Go w n) = closing w fs
-arrive_by fs (move.Leave n) = let s = leaving fs in closing s.word s.frames
-arrive_by fs (move.Open e q t w n) = closing w (frame e q t ∷ fs)
-
-abbrev pub read_by : Move → ℕ
-read_by move.End = 0
-read_by (move.Go w n) = n
-read_by (move.Leave n) = n
-read_by (move.Open e q t w n) = n
+arrive_by fs (move.Go w) = closing w fs
+arrive_by fs move.Leave = let s = leaving fs in closing s.word s.frames
+arrive_by fs (move.Open f w) = closing w (f ∷ fs)
 
 -- the words' controls in an array of 512
 abbrev pub controls_of : List ℕ → List Control

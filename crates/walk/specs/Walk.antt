@@ -1,8 +1,9 @@
 -- The control walk (document 01, 'Stepping rules', last paragraph, and 'Numbers given back').
 -- Assumes nothing.
-use Rattle.std.specs.Prelude.{◌≡◌, Bool, not, ◌||◌, List, [], ◌∷◌, ℕ, eqb, ltb, length, get_or}
+use Rattle.std.specs.Prelude.{◌≡◌, Bool, not, ◌||◌, List, [], ◌∷◌, ℕ, eqb, ltb, length, get_or, Result, Ok}
 use Rattle.std.proofs.lemmas.List.Edits.{sets}
 use Rattle.answer.specs.Answers.{Answer, given, refused, or_missing, or_short}
+use Rattle.answer.specs.declared.Refusal.{Refusal}
 use Rattle.container.specs.Program.{program_of}
 use Rattle.flow.specs.Stepping.{Settings, State, Run, done, failed, unfinished, run}
 use Rattle.flow.specs.WholeRun.{Whole}
@@ -10,8 +11,6 @@ use Rattle.verifier.specs.Executables.{report_of}
 use Rattle.verifier.specs.Promise.{code_for, start_for}
 use Rattle.verifier.specs.Verdict.{check_of}
 use Rattle.verifier.specs.declared.verdict.Library.{Library}
-use Rattle.walk.specs.declared.walking.Walked.{Walked}
-use Rattle.walk.specs.declared.walking.Walked.TheVariants as walked
 
 -- 'non-zero true'
 abbrev pub non_zero : ℕ → Bool
@@ -55,8 +54,8 @@ module _ (file : List ℕ) (index : ℕ) (bools ints truth : List ℕ) where
   abbrev pub WholeWalk : Type 0
   WholeWalk = Whole (code_for file) (settings_of bools ints truth) 4 8 2 (report_of file (program_of file) index).total (start_for file index)
 
-  abbrev pub RunsWhole : Walked → Type 0
-  RunsWhole r = (n : ℕ) → r ≡ walked.Steps n → WholeWalk
+  abbrev pub RunsWhole : Result ℕ Refusal → Type 0
+  RunsWhole r = (n : ℕ) → r ≡ Ok n → WholeWalk
 
 -- 'it answers the steps made'
 abbrev pub steps_of : Answer (List ℕ) → Answer ℕ
@@ -67,8 +66,3 @@ steps_of (refused number place) = refused number place
 abbrev pub written_to : List ℕ → Answer (List ℕ) → List ℕ
 written_to old (given fetches) = sets old 0 fetches
 written_to old (refused number place) = old
-
--- the code's answer
-abbrev pub walked_as : Walked → Answer ℕ
-walked_as (walked.Steps n) = given n
-walked_as (walked.Refused number place) = refused number place

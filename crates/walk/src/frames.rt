@@ -1,137 +1,118 @@
-// The open regions of a run, in three arrays with the outermost region first: where each ends; where the run goes on after it, or a LOOP's first word; how many turns of a LOOP are left, this one with them, and 0 for any other region.
-ghost use Rattle.std.specs.Prelude.{◌≡◌, List, ◌∷◌, ℕ, ◌+◌, ◌≤◌, length};
-ghost use Rattle.walk.specs.Inside.{frame, frames_of, Room, standing, closing, leaving, arrive_by, read_by};
+// The open regions of a run.
+ghost use Rattle.std.specs.Prelude.{◌≡◌, [], ◌∷◌, ◌<◌, length};
+ghost use Rattle.walk.specs.Inside.{frame, standing, closing, leaving, arrive_by};
 
 use crate::moves::Move;
+use std::marker::Model;
 
-// The word where a run goes on, and how many regions are open.
-#[derive(Clone, Copy)]
-pub struct Reached {
-    pub word: u64,
-    pub depth: usize,
+// An open region: its end; where the run goes on after it, or a LOOP's first word; how many turns of a LOOP
+// are left, this one with them, and 0 for any other region.
+#[derive(Clone, Copy, Debug, PartialEq, Eq)]
+pub struct Frame {
+    pub end: u64,
+    pub then: u64,
+    pub turns: u64,
 }
 
-// Arrives at a word: closes the regions that end there, the innermost first. A LOOP with turns left begins again; an empty one closes in all its turns.
-pub(crate) fn arrive(
-    ends: &[u64],
-    thens: &[u64],
-    turns: &mut [u64],
-    word: u64,
+// Sixteen regions at most, the outermost first.
+#[derive(Drop)]
+pub struct Frames {
+    frames: [Frame; 16],
     depth: usize,
-) -> Reached
-    requires { Room depth ends.now thens.now turns.old }
-    ensures { standing result.word (frames_of ends.now thens.now turns.new result.depth) ≡ closing word (frames_of ends.now thens.now turns.old depth) }
-{
-    let mut at = word;
-    let mut left = depth;
-    while 0 < left {
-        let top = left - 1;
-        if at != ends[top] {
-            return Reached {
-                word: at,
-                depth: left,
-            };
-        }
-        let then = thens[top];
-        let count = turns[top];
-        if 1 < count && then != at {
-            turns[top] = count - 1;
-            return Reached {
-                word: then,
-                depth: left,
-            };
-        }
-        if count == 0 {
-            at = then;
-        }
-        left = top;
-    }
-    Reached { word: at, depth: 0 }
 }
 
-// BREAK: closes what is open up to the innermost LOOP, with it, and goes on where it ends. With no LOOP open a run has no next step, so what is answered then does not matter.
-pub(crate) fn leave(ends: &[u64], turns: &[u64], depth: usize) -> Reached
-    requires { (depth ≤ 16) × (length ends.now ≡ 16) × (length turns.now ≡ 16) }
-    ensures shallower { result.depth ≤ depth }
-    ensures leaves { (thens : List ℕ) → standing result.word (frames_of ends.now thens turns.now result.depth) ≡ leaving (frames_of ends.now thens turns.now depth) }
-{
-    let mut left = depth;
-    while 0 < left {
-        left -= 1;
-        if 0 < turns[left] {
-            return Reached {
-                word: ends[left],
-                depth: left,
-            };
-        }
-    }
-    Reached { word: 0, depth: 0 }
+// Clauses see the open regions as the stepping rules list them, the innermost first.
+impl Model for Frames {
+    ghost use Rattle.std.specs.Prelude.{List, ◌≤◌, reverse, take};
+    ghost use Rattle.walk.specs.declared.frames.Frame.{Frame};
+
+    ghost Value = { List Frame };
+
+    ghost view = { λ s. reverse (take s.depth s.frames) };
+
+    ghost invariant = { λ s. s.depth ≤ 16 };
 }
 
-// Opens a region inside the others.
-pub(crate) fn open_region(
-    ends: &mut [u64],
-    thens: &mut [u64],
-    turns: &mut [u64],
-    depth: usize,
-    end: u64,
-    then: u64,
-    count: u64,
-)
-    requires { Room (depth + 1) ends.old thens.old turns.old }
-    ensures { frames_of ends.new thens.new turns.new (depth + 1) ≡ frame end then count ∷ frames_of ends.old thens.old turns.old depth }
-{
-    ends[depth] = end;
-    thens[depth] = then;
-    turns[depth] = count;
-}
-
-// Where a run stands: the word to be fetched, how many regions are open, how many outcomes were read.
-#[derive(Clone, Copy)]
-pub struct Position {
-    pub word: u64,
-    pub depth: usize,
-    pub read: u64,
-}
-
-fn with_read(reached: Reached, read: u64) -> Position
-    ensures { result ≡ record { word = reached.word; depth = reached.depth; read = read } }
-{
-    Position {
-        word: reached.word,
-        depth: reached.depth,
-        read,
-    }
-}
-
-// Does what a word asks for, and arrives. After END there is nothing to do.
-pub(crate) fn follow(
-    asked: Move,
-    ends: &mut [u64],
-    thens: &mut [u64],
-    turns: &mut [u64],
-    depth: usize,
-) -> Position
-    requires { Room (depth + 1) ends.old thens.old turns.old }
-    ensures arrives { standing result.word (frames_of ends.new thens.new turns.new result.depth) ≡ arrive_by (frames_of ends.old thens.old turns.old depth) asked }
-    ensures reads { result.read ≡ read_by asked }
-{
-    match asked {
-        Move::End => with_read(Reached { word: 0, depth: 0 }, 0),
-        Move::Go { word, read } => with_read(arrive(ends, thens, turns, word, depth), read),
-        Move::Leave { read } => {
-            let left = leave(ends, turns, depth);
-            with_read(arrive(ends, thens, turns, left.word, left.depth), read)
-        }
-        Move::Open {
+impl Frames {
+    // Main alone, which nothing follows.
+    pub(crate) fn of_main(end: u64) -> Frames
+        ensures { result ≡ frame end end 0 ∷ [] }
+    {
+        let main = Frame {
             end,
-            then,
-            turns: count,
-            word,
-            read,
-        } => {
-            open_region(ends, thens, turns, depth, end, then, count);
-            with_read(arrive(ends, thens, turns, word, depth + 1), read)
+            then: end,
+            turns: 0,
+        };
+        Frames {
+            frames: [main; 16],
+            depth: 1,
+        }
+    }
+
+    // Opens a region inside the others.
+    fn open(&mut self, region: Frame)
+        requires { length self.old < 16 }
+        ensures { self.new ≡ region ∷ self.old }
+    {
+        self.frames[self.depth] = region;
+        self.depth += 1;
+    }
+
+    // Arrives at a word: closes the regions that end there, the innermost first, and answers where the run
+    // goes on. A LOOP with turns left begins again; an empty one closes in all its turns.
+    fn arrive(&mut self, word: u64) -> u64
+        ensures { standing result self.new ≡ closing word self.old }
+    {
+        let mut at = word;
+        while 0 < self.depth {
+            let top = self.depth - 1;
+            let region = &self.frames[top];
+            if at != region.end {
+                return at;
+            }
+            let Frame { then, turns, .. } = *region;
+            if 1 < turns && then != at {
+                self.frames[top].turns -= 1;
+                return then;
+            }
+            if turns == 0 {
+                at = then;
+            }
+            self.depth = top;
+        }
+        at
+    }
+
+    // BREAK: closes what is open up to the innermost LOOP, with it, and answers where it ends. With no LOOP
+    // open a run has no next step, so what is answered then does not matter.
+    fn leave(&mut self) -> u64
+        ensures { standing result self.new ≡ leaving self.old }
+    {
+        while 0 < self.depth {
+            self.depth -= 1;
+            let region = &self.frames[self.depth];
+            if 0 < region.turns {
+                return region.end;
+            }
+        }
+        0
+    }
+
+    // Does what a word asks for, and arrives.
+    pub(crate) fn follow(&mut self, asked: Move) -> u64
+        requires { length self.old < 16 }
+        ensures { standing result self.new ≡ arrive_by self.old asked }
+    {
+        match asked {
+            Move::Go(word) => self.arrive(word),
+            Move::Leave => {
+                let end = self.leave();
+                self.arrive(end)
+            }
+            Move::Open(region, word) => {
+                self.open(region);
+                self.arrive(word)
+            }
         }
     }
 }

@@ -6,8 +6,8 @@ mod constants;
 mod engine;
 mod frames;
 mod moves;
-mod refusal;
+mod settings;
 mod walking;
 
-pub use constants::{Handed, constant};
-pub use walking::{Walked, walk};
+pub use constants::constant;
+pub use walking::walk;

@@ -1,12 +1,7 @@
--- `descriptors_of` meets its contract. Before each turn the descriptors below p are there. Assumes nothing.
-use mathlib.Core.Path.{◌≡◌}
-use Prim.Native.Nat.{◌*◌, ◌-◌, ◌≤◌}
+-- `descriptors_of` meets its contract. Before each turn the descriptors below index are there. Assumes nothing.
+use Rattle.std.proofs.Common.{◌≡◌, ℕ, ◌*◌, ◌<◌, get_or}
 use Rattle.binary.specs.Bytes.{u32_at}
-use Rattle.verifier.specs.Lists.{filled}
 use Rattle.listing.proofs.descriptors_of.Given as goal
 
-abbrev pub invariant-loop-p : goal.invariant-loop-p
-invariant-loop-p l = (l.p ≤ l.p-end) × (l.descriptors ≡ filled (λ k. u32_at l.bytes (k * 8)) 0 128 l.p 0)
-
-abbrev pub decreases-loop-p : goal.decreases-loop-p
-decreases-loop-p l = l.p-end - l.p
+abbrev pub invariant-loop-index : goal.invariant-loop-index
+invariant-loop-index l = (k d : ℕ) → k < l.index → get_or l.descriptor-items k d ≡ u32_at l.bytes (k * 8)

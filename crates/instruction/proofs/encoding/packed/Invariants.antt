@@ -1,11 +1,7 @@
--- `encoding::packed` meets its contract. Before each turn the parts from place i up fit and are packed in the word. Assumes nothing.
-use Prim.Native.Nat.{◌≤◌}
-use lib.ListN.{length}
-use Rattle.instruction.proofs.Packing.{Packed}
+-- `encoding::packed` meets its contract: the parts that the iterators have given fit and are packed in the word.
+-- Assumes nothing.
+use Rattle.instruction.proofs.Packing.{Left}
 use Rattle.instruction.proofs.encoding.packed.Given as goal
 
-abbrev pub invariant-loop-i : goal.invariant-loop-i
-invariant-loop-i l = (l.i ≤ length l.widths) × Packed l.widths l.parts l.i l.word
-
-abbrev pub decreases-loop-i : goal.decreases-loop-i
-decreases-loop-i l = l.i
+abbrev pub invariant-loop-width : goal.invariant-loop-width
+invariant-loop-width l = Left l.widths l.parts l.width-iterator.a.iter.rest.now l.width-iterator.b.iter.rest.now l.word

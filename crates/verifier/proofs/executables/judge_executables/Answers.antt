@@ -4,17 +4,19 @@ use mathlib.Core.Bool.{true}
 use Prim.Native.Nat.{ℕ, ◌+◌, ◌-◌, ◌≤◌, ◌<◌}
 use native.Mathlib.Omega.{arith}
 use borrow.Author.Rules.{rules}
-use Rattle.answer.specs.declared.Fault.TheVariants.{Nothing}
+use Rattle.answer.specs.Faults.{Nothing}
 use Rattle.answer.proofs.Laws.{stop, hit, over}
 use Rattle.container.specs.Executable.{executable_fault}
-use Rattle.flow.specs.Flow.{flowed}
+use Rattle.answer.specs.Answers.{answered}
+use Rattle.std.specs.Prelude.{Err, is_err}
+use Rattle.answer.specs.Faults.{Fault, faulted}
 use Rattle.tables.specs.Constants.{constant_fault}
 use Rattle.tables.specs.Entries.{label_fault, output_fault, uniform_fault}
 use Rattle.verifier.specs.Executables.{place_of, no_report, report_of}
 use Rattle.verifier.specs.Lists.{filled}
 use Rattle.verifier.proofs.Sharing.{constant_placeless, label_placeless, output_placeless, uniform_placeless, begun, next, all_good, known_labels, known_uniforms, now_known}
-use Rattle.verifier.proofs.Stages.{All, begin, at_head, past_head, seen, seen_names, constants_fit, labels_fit, outputs_fit, uniforms_fit, word_inside, flow_stops, flow_goes_on, report_added, none_yet, Left, left_by, told_refused, told_accepted}
-use Rattle.verifier.proofs.executables.judge_executables.Goals.{After-executable_of-e, Left-executables, else-executables-test, then-executables-test+in-At, then-executables-test+in_default+then-loop-entry-test+in-At-found, then-executables-test+in_default+else-loop-entry-test+then-loop-entry-2-test+in-At-found-2, then-executables-test+in_default+else-loop-entry-test+else-loop-entry-2-test+then-loop-entry-3-test+in-At-found-3, then-executables-test+in_default+else-loop-entry-test+else-loop-entry-2-test+else-loop-entry-3-test+then-loop-entry-4-test+in-At-found-4, then-executables-test+in_default+else-loop-entry-test+else-loop-entry-2-test+else-loop-entry-3-test+else-loop-entry-4-test+in-Refused}
+use Rattle.verifier.proofs.Stages.{All, begin, at_head, past_head, seen, seen_names, constants_fit, labels_fit, outputs_fit, uniforms_fit, word_inside, flow_stops, flow_goes_on, report_added, none_yet, Left, left_by, found_by, passes, told_refused, told_reports}
+use Rattle.verifier.proofs.executables.judge_executables.Goals.{After-executable_of-e, Left-executables, else-executables-test, then-executables-test+then-is_err, then-executables-test+else-is_err+then-loop-entry-test+then-is_err-2, then-executables-test+else-is_err+else-loop-entry-test+then-loop-entry-2-test+then-is_err-3, then-executables-test+else-is_err+else-loop-entry-test+else-loop-entry-2-test+then-loop-entry-3-test+then-is_err-4, then-executables-test+else-is_err+else-loop-entry-test+else-loop-entry-2-test+else-loop-entry-3-test+then-loop-entry-4-test+then-is_err-5, then-executables-test+else-is_err+else-loop-entry-test+else-loop-entry-2-test+else-loop-entry-3-test+else-loop-entry-4-test+in-Err}
 use Rattle.verifier.proofs.executables.judge_executables.Goals as goal
 
 -- an executable that is read: it is one of those asked for, and has no fault before its tables
@@ -26,7 +28,7 @@ module _ (c : After-executable_of-e) where
   in_range = (c.executables.invariant.0, c.executables-test.true, c.requires.1)
 
   head_passed : executable_fault 1 c.args.library.program.words c.args.file.now at_index (place_of at_index) ≡ Nothing
-  head_passed = sym c.executable_fault-found.ensures ∙ c.in_default.is
+  head_passed = sym c.executable_fault-found.ensures ∙ passes _ (sym c.is_err.ensures.value ∙ c.if-is_err.false)
 
 -- where the ways out of the loop meet: it is over, or one of the tests stopped it
 at_left : (c : Left-executables)
@@ -34,13 +36,13 @@ at_left : (c : Left-executables)
 at_left c =
     let x = c.executables in
     elim c.executables-test.branch [
-      | else-executables-test w ↦ (w.found-is ∙ x.invariant.2 ∙ sym (over _ _ _ _ _ x.invariant.3 w.executables-test.false), λ e. w.executables-test.false)
-      | then-executables-test+in-At w ↦ left_by w.found-is w.in-At.is (stop _ _ (at_head _ _ _ _ _ x.invariant.3 w.executables-test.true) (sym w.executable_fault-found.ensures ∙ w.in-At.is))
-      | then-executables-test+in_default+then-loop-entry-test+in-At-found w ↦ left_by w.found-is w.in-At-found.is (hit _ _ _ _ _ w.loop-entry.invariant.1.left w.loop-entry-test.true ((seen (λ s. constant_fault s (place_of x.index + w.loop-entry.entry)) w.entry_of.ensures w.constant_fault-found.ensures) ∙ w.in-At-found.is))
-      | then-executables-test+in_default+else-loop-entry-test+then-loop-entry-2-test+in-At-found-2 w ↦ left_by w.found-is w.in-At-found-2.is (hit _ _ _ _ _ w.loop-entry-2.invariant.1.left w.loop-entry-2-test.true ((seen_names (λ n s. label_fault s c.args.library.program.words.count n (place_of x.index + w.loop-entry-2.entry)) w.names_after-names.ensures w.entry_of-in-loop-entry-2.ensures w.label_fault-found.ensures) ∙ w.in-At-found-2.is))
-      | then-executables-test+in_default+else-loop-entry-test+else-loop-entry-2-test+then-loop-entry-3-test+in-At-found-3 w ↦ left_by w.found-is w.in-At-found-3.is (hit _ _ _ _ _ w.loop-entry-3.invariant.1.left w.loop-entry-3-test.true ((seen (λ s. output_fault s (place_of x.index + w.loop-entry-3.entry)) w.entry_of-in-loop-entry-3.ensures w.output_fault-found.ensures) ∙ w.in-At-found-3.is))
-      | then-executables-test+in_default+else-loop-entry-test+else-loop-entry-2-test+else-loop-entry-3-test+then-loop-entry-4-test+in-At-found-4 w ↦ left_by w.found-is w.in-At-found-4.is (hit _ _ _ _ _ w.loop-entry-4.invariant.1.left w.loop-entry-4-test.true ((seen_names (λ n s. uniform_fault s n (place_of x.index + w.loop-entry-4.entry)) w.names_after-names.ensures w.entry_of-in-loop-entry-4.ensures w.uniform_fault-found.ensures) ∙ w.in-At-found-4.is))
-      | then-executables-test+in_default+else-loop-entry-test+else-loop-entry-2-test+else-loop-entry-3-test+else-loop-entry-4-test+in-Refused w ↦ left_by w.found-is refl (flow_stops c.requires.0 x.index w.executable_of-e.ensures (sym w.executable_fault-found.ensures ∙ w.in_default.is) w.flow_after-flow.result w.flow_after-flow.ensures _ _ (over _ _ _ _ _ w.loop-entry-4.invariant.1.left w.loop-entry-4-test.false) w.in-Refused.is)
+      | else-executables-test w ↦ (ap faulted w.found-is ∙ x.invariant.2 ∙ sym (over _ _ _ _ _ x.invariant.3 w.executables-test.false), λ e. w.executables-test.false)
+      | then-executables-test+then-is_err w ↦ left_by w.found-is (sym w.is_err.ensures.value ∙ w.if-is_err.true) (found_by _ (sym w.is_err.ensures.value ∙ w.if-is_err.true) w.executable_fault-found.ensures (λ n p g. stop _ _ (at_head _ _ _ _ _ x.invariant.3 w.executables-test.true) g))
+      | then-executables-test+else-is_err+then-loop-entry-test+then-is_err-2 w ↦ left_by w.found-is (sym w.is_err-in-loop-entry.ensures.value ∙ w.if-is_err-2.true) (found_by _ (sym w.is_err-in-loop-entry.ensures.value ∙ w.if-is_err-2.true) (sym (seen (λ s. constant_fault s (place_of x.index + w.loop-entry.entry)) w.entry_of.ensures w.constant_fault-found.ensures)) (λ n p g. hit _ _ _ _ _ w.loop-entry.invariant.1.left w.loop-entry-test.true g))
+      | then-executables-test+else-is_err+else-loop-entry-test+then-loop-entry-2-test+then-is_err-3 w ↦ left_by w.found-is (sym w.is_err-in-loop-entry-2.ensures.value ∙ w.if-is_err-3.true) (found_by _ (sym w.is_err-in-loop-entry-2.ensures.value ∙ w.if-is_err-3.true) (sym (seen_names (λ n s. label_fault s c.args.library.program.words.count n (place_of x.index + w.loop-entry-2.entry)) w.names_after-names.ensures w.entry_of-in-loop-entry-2.ensures w.label_fault-found.ensures)) (λ n p g. hit _ _ _ _ _ w.loop-entry-2.invariant.1.left w.loop-entry-2-test.true g))
+      | then-executables-test+else-is_err+else-loop-entry-test+else-loop-entry-2-test+then-loop-entry-3-test+then-is_err-4 w ↦ left_by w.found-is (sym w.is_err-in-loop-entry-3.ensures.value ∙ w.if-is_err-4.true) (found_by _ (sym w.is_err-in-loop-entry-3.ensures.value ∙ w.if-is_err-4.true) (sym (seen (λ s. output_fault s (place_of x.index + w.loop-entry-3.entry)) w.entry_of-in-loop-entry-3.ensures w.output_fault-found.ensures)) (λ n p g. hit _ _ _ _ _ w.loop-entry-3.invariant.1.left w.loop-entry-3-test.true g))
+      | then-executables-test+else-is_err+else-loop-entry-test+else-loop-entry-2-test+else-loop-entry-3-test+then-loop-entry-4-test+then-is_err-5 w ↦ left_by w.found-is (sym w.is_err-in-loop-entry-4.ensures.value ∙ w.if-is_err-5.true) (found_by _ (sym w.is_err-in-loop-entry-4.ensures.value ∙ w.if-is_err-5.true) (sym (seen_names (λ n s. uniform_fault s n (place_of x.index + w.loop-entry-4.entry)) w.names_after-names.ensures w.entry_of-in-loop-entry-4.ensures w.uniform_fault-found.ensures)) (λ n p g. hit _ _ _ _ _ w.loop-entry-4.invariant.1.left w.loop-entry-4-test.true g))
+      | then-executables-test+else-is_err+else-loop-entry-test+else-loop-entry-2-test+else-loop-entry-3-test+else-loop-entry-4-test+in-Err w ↦ left_by w.found-is refl (ap (λ r. faulted (Err r)) w.at.ensures ∙ flow_stops c.requires.0 x.index w.executable_of-e.ensures (sym w.executable_fault-found.ensures ∙ passes _ (sym w.is_err.ensures.value ∙ w.if-is_err.false)) w.flow_after-flow.result w.flow_after-flow.ensures _ _ (over _ _ _ _ _ w.loop-entry-4.invariant.1.left w.loop-entry-4-test.false) w.in-Err.is)
     ]
 
 pub executables-init : goal.executables-init
@@ -53,7 +55,7 @@ names_after-names-requires c = c.executables.invariant.5.names
 pub loop-entry-init : goal.loop-entry-init
 loop-entry-init c =
     let x = c.executables in (
-      c.in_default.is,
+      passes _ (sym c.is_err.ensures.value ∙ c.if-is_err.false),
       begun _ _ _ _ _ _ _ true x.earlier.executable.constants c.good_in-known.ensures (λ same. x.invariant.5.constants) (past_head _ _ _ _ _ x.invariant.3 (in_range (goal.at.loop-entry-init c).After-executable_of-e).1 c.executable_of-e.ensures (head_passed (goal.at.loop-entry-init c).After-executable_of-e)),
     )
 
@@ -67,9 +69,9 @@ overflow_add-place c =
 
 pub loop-entry-preserved : goal.loop-entry-preserved
 loop-entry-preserved c = (
-  c.in_default-found.is,
+  passes _ (sym c.is_err-in-loop-entry.ensures.value ∙ c.if-is_err-2.false),
   next _ _ _ _ _ _ _ constant_placeless c.loop-entry.invariant.1 c.loop-entry-test.true
-      (seen (λ s. constant_fault s (place_of (at_index (goal.at.loop-entry-preserved c).After-executable_of-e) + c.loop-entry.entry)) c.entry_of.ensures c.constant_fault-found.ensures ∙ c.in_default-found.is),
+      (seen (λ s. constant_fault s (place_of (at_index (goal.at.loop-entry-preserved c).After-executable_of-e) + c.loop-entry.entry)) c.entry_of.ensures c.constant_fault-found.ensures ∙ passes _ (sym c.is_err-in-loop-entry.ensures.value ∙ c.if-is_err-2.false)),
 )
 
 pub loop-entry-2-init : goal.loop-entry-2-init
@@ -88,9 +90,9 @@ overflow_add-place-in-loop-entry-2 c =
 
 pub loop-entry-2-preserved : goal.loop-entry-2-preserved
 loop-entry-2-preserved c = (
-  c.in_default-found-2.is,
+  passes _ (sym c.is_err-in-loop-entry-2.ensures.value ∙ c.if-is_err-3.false),
   next _ _ _ _ _ _ _ (label_placeless _ _) c.loop-entry-2.invariant.1 c.loop-entry-2-test.true
-      (seen_names (λ n s. label_fault s c.args.library.program.words.count n (place_of (at_index (goal.at.loop-entry-2-preserved c).After-executable_of-e) + c.loop-entry-2.entry)) c.names_after-names.ensures c.entry_of-in-loop-entry-2.ensures c.label_fault-found.ensures ∙ c.in_default-found-2.is),
+      (seen_names (λ n s. label_fault s c.args.library.program.words.count n (place_of (at_index (goal.at.loop-entry-2-preserved c).After-executable_of-e) + c.loop-entry-2.entry)) c.names_after-names.ensures c.entry_of-in-loop-entry-2.ensures c.label_fault-found.ensures ∙ passes _ (sym c.is_err-in-loop-entry-2.ensures.value ∙ c.if-is_err-3.false)),
 )
 
 pub loop-entry-3-init : goal.loop-entry-3-init
@@ -109,9 +111,9 @@ overflow_add-place-in-loop-entry-3 c =
 
 pub loop-entry-3-preserved : goal.loop-entry-3-preserved
 loop-entry-3-preserved c = (
-  c.in_default-found-3.is,
+  passes _ (sym c.is_err-in-loop-entry-3.ensures.value ∙ c.if-is_err-4.false),
   next _ _ _ _ _ _ _ output_placeless c.loop-entry-3.invariant.1 c.loop-entry-3-test.true
-      (seen (λ s. output_fault s (place_of (at_index (goal.at.loop-entry-3-preserved c).After-executable_of-e) + c.loop-entry-3.entry)) c.entry_of-in-loop-entry-3.ensures c.output_fault-found.ensures ∙ c.in_default-found-3.is),
+      (seen (λ s. output_fault s (place_of (at_index (goal.at.loop-entry-3-preserved c).After-executable_of-e) + c.loop-entry-3.entry)) c.entry_of-in-loop-entry-3.ensures c.output_fault-found.ensures ∙ passes _ (sym c.is_err-in-loop-entry-3.ensures.value ∙ c.if-is_err-4.false)),
 )
 
 pub loop-entry-4-init : goal.loop-entry-4-init
@@ -130,18 +132,18 @@ overflow_add-place-in-loop-entry-4 c =
 
 pub loop-entry-4-preserved : goal.loop-entry-4-preserved
 loop-entry-4-preserved c = (
-  c.in_default-found-4.is,
+  passes _ (sym c.is_err-in-loop-entry-4.ensures.value ∙ c.if-is_err-5.false),
   next _ _ _ _ _ _ _ (uniform_placeless _) c.loop-entry-4.invariant.1 c.loop-entry-4-test.true
-      (seen_names (λ n s. uniform_fault s n (place_of (at_index (goal.at.loop-entry-4-preserved c).After-executable_of-e) + c.loop-entry-4.entry)) c.names_after-names.ensures c.entry_of-in-loop-entry-4.ensures c.uniform_fault-found.ensures ∙ c.in_default-found-4.is),
+      (seen_names (λ n s. uniform_fault s n (place_of (at_index (goal.at.loop-entry-4-preserved c).After-executable_of-e) + c.loop-entry-4.entry)) c.names_after-names.ensures c.entry_of-in-loop-entry-4.ensures c.uniform_fault-found.ensures ∙ passes _ (sym c.is_err-in-loop-entry-4.ensures.value ∙ c.if-is_err-5.false)),
 )
 
 pub flow_after-flow-requires : goal.flow_after-flow-requires
 flow_after-flow-requires c = c.executables.invariant.5.flow
 
-pub overflow_add-found : goal.overflow_add-found
-overflow_add-found c =
+pub overflow_add-place-in-Err : goal.overflow_add-place-in-Err
+overflow_add-place-in-Err c =
     let r = c.flow_after-flow in
-    omega (arith, in_range (goal.at.overflow_add-found c).After-executable_of-e, word_inside c.requires.0 _ c.executable_of-e.ensures (head_passed (goal.at.overflow_add-found c).After-executable_of-e) r.result r.ensures c.in-Refused.is)
+    omega (arith, in_range (goal.at.overflow_add-place-in-Err c).After-executable_of-e, word_inside c.requires.0 _ c.executable_of-e.ensures (head_passed (goal.at.overflow_add-place-in-Err c).After-executable_of-e) r.result r.ensures c.in-Err.is)
 
 pub overflow_sub-i : goal.overflow_sub-i
 overflow_sub-i c = omega (arith, in_range (goal.at.overflow_sub-i c).After-executable_of-e)
@@ -166,21 +168,24 @@ executables-preserved c =
       search rules,
       search rules,
       l.0,
-      flow_goes_on c.requires.0 _ c.executable_of-e.ensures (head_passed (goal.at.executables-preserved c).After-executable_of-e) r.result r.ensures _ _ (over _ _ _ _ _ l.1.left c.loop-entry-4-test.false) c.in-Passed.is,
-      report_added c.requires.0 _ c.executable_of-e.ensures (head_passed (goal.at.executables-preserved c).After-executable_of-e) r.result r.ensures _ (in_range (goal.at.executables-preserved c).After-executable_of-e).0 (omega (arith, in_range (goal.at.executables-preserved c).After-executable_of-e)) x.invariant.4 c.in-Passed.is c.report_with.ensures,
-      now_known c.requires.0 c.executable_of-e.result c.names_after-names.ensures (ap flowed (sym c.in-Passed.is) ∙ r.ensures)
+      flow_goes_on c.requires.0 _ c.executable_of-e.ensures (head_passed (goal.at.executables-preserved c).After-executable_of-e) r.result r.ensures _ _ (over _ _ _ _ _ l.1.left c.loop-entry-4-test.false) c.in-Ok.is,
+      report_added c.requires.0 _ c.executable_of-e.ensures (head_passed (goal.at.executables-preserved c).After-executable_of-e) r.result r.ensures _ (in_range (goal.at.executables-preserved c).After-executable_of-e).0 (omega (arith, in_range (goal.at.executables-preserved c).After-executable_of-e)) x.invariant.4 c.in-Ok.is c.report_with.ensures,
+      now_known c.requires.0 c.executable_of-e.result c.names_after-names.ensures (ap answered (sym c.in-Ok.is) ∙ r.ensures)
           (all_good _ _ _ _ _ _ _ c.loop-entry.invariant.1 c.loop-entry-test.false)
           (all_good _ _ _ _ _ _ _ c.loop-entry-2.invariant.1 c.loop-entry-2-test.false)
           (all_good _ _ _ _ _ _ _ c.loop-entry-3.invariant.1 c.loop-entry-3-test.false)
           (all_good _ _ _ _ _ _ _ l.1 c.loop-entry-4-test.false),
     )
 
-pub returns-in-At-found-5 : goal.returns-in-At-found-5
-returns-in-At-found-5 c = told_refused _ _ (at_left (goal.at.returns-in-At-found-5 c).Left-executables).0 c.in-At-found-5.is c.refused.ensures
+pub returns-in_err-found : goal.returns-in_err-found
+returns-in_err-found c =
+    let same : c.from_residual.result ≡ Err c.in_err-found.field-0.0 = search rules in
+    rw same (told_refused _ (at_left (goal.at.returns-in_err-found c).Left-executables).0 c.in_err-found.was)
 
-pub returns-in-Nothing : goal.returns-in-Nothing
-returns-in-Nothing c =
+pub returns : goal.returns
+returns c =
     let s = c.args in
     let x = c.executables in
-    let done : x.index - s.first ≡ s.end - s.first = omega (arith, x.invariant.0, x.invariant.1, (at_left (goal.at.returns-in-Nothing c).Left-executables).1 c.in-Nothing.is) in
-    told_accepted _ (at_left (goal.at.returns-in-Nothing c).Left-executables).0 c.in-Nothing.is (x.invariant.4 ∙ ap (λ n. filled (report_of s.file.now s.library.program) s.first 16 n no_report) done)
+    let left = at_left (goal.at.returns c).Left-executables in
+    let done : x.index - s.first ≡ s.end - s.first = omega (arith, x.invariant.0, x.invariant.1, left.1 (ap faulted c.in_ok-found.was)) in
+    told_reports left.0 c.in_ok-found.was (x.invariant.4 ∙ ap (λ n. filled (report_of s.file.now s.library.program) s.first 16 n no_report) done)

@@ -20,11 +20,11 @@ word_at-requires c =
 
 pub loop-p-preserved : goal.loop-p-preserved
 loop-p-preserved c =
-    let short : c.loop-p.p < 512 = omega (arith, c.least-count.ensures) in
+    let short : c.loop-p.p < 512 = omega (arith, c.min-count.ensures) in
     let z : 0 + c.loop-p.p ≡ c.loop-p.p = omega arith in
     (search rules, rw (c.loop-p.invariant.1, c.word_at.ensures) (rw z at (filled_next (λ n. u32_at c.tail-bytes.result.now (n * 4)) 0 512 0 c.loop-p.p short)))
 
 pub returns : goal.returns
 returns c =
-    let all : c.loop-p.p ≡ min c.args.table.count 512 = omega (arith, c.least-count.ensures) in
+    let all : c.loop-p.p ≡ min c.args.table.count 512 = omega (arith, c.min-count.ensures) in
     c.loop-p.invariant.1 ∙ rw all (table_drop c.args.file.now c.args.table.start.0 4 512 (min c.args.table.count 512) c.tail-bytes.ensures)

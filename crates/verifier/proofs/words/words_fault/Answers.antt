@@ -5,9 +5,8 @@ use Prim.Native.Nat.{ℕ, ◌-◌}
 use native.Mathlib.Omega.{arith}
 use borrow.Author.Rules.{rules}
 use lib.ListN.{length, get_or}
-use Rattle.answer.specs.Faults.{or_else, first_in}
-use Rattle.answer.specs.declared.Fault.{Fault}
-use Rattle.answer.specs.declared.Fault.TheVariants.{Nothing}
+use Rattle.std.specs.Prelude.{Err}
+use Rattle.answer.specs.Faults.{Fault, Nothing, or_else, first_in}
 use Rattle.answer.proofs.Laws.{or_nothing, hit, miss, over}
 use Rattle.verifier.specs.Words.{word_fault, words_fault}
 use Rattle.verifier.proofs.words.words_fault.Goals as goal
@@ -24,13 +23,14 @@ begin d ws =
 pub loop-p-init : goal.loop-p-init
 loop-p-init c = (search rules, begin _ _)
 
-pub returns-in-At : goal.returns-in-At
-returns-in-At c =
-    hit _ _ _ _ _ c.loop-p.invariant.1 c.loop-p-test.true (sym c.word_fault.ensures ∙ c.in-At.is)
+pub returns-in_err-word_fault : goal.returns-in_err-word_fault
+returns-in_err-word_fault c =
+    let same : c.from_residual.result ≡ Err c.in_err-word_fault.field-0.0 = search rules in
+    rw same (hit _ _ _ _ _ c.loop-p.invariant.1 c.loop-p-test.true (sym c.in_err-word_fault.ensures))
 
 pub loop-p-preserved : goal.loop-p-preserved
 loop-p-preserved c =
-    (search rules, miss _ _ _ _ _ c.loop-p.invariant.1 c.loop-p-test.true (sym c.word_fault.ensures ∙ c.in-Nothing.is))
+    (search rules, miss _ _ _ _ _ c.loop-p.invariant.1 c.loop-p-test.true (sym c.in_ok-word_fault.ensures))
 
 pub returns : goal.returns
 returns c = sym (over _ _ _ _ _ c.loop-p.invariant.1 c.loop-p-test.false)

@@ -10,44 +10,44 @@ use Rattle.walk.proofs.walking.walk.Goals as goal
 
 pub returns-in_default : goal.returns-in_default
 returns-in_default c =
-    let told = walk_refused c.args.file.now c.args.executable c.args.bools.now c.args.ints.now c.args.truth.now c.args.fetched.now c.check-verdict.ensures.answers c.in_default.is c.refusal_of-refusal.ensures in
+    let told = walk_refused c.args.file.now c.args.executable c.args.bools.now c.args.ints.now c.args.truth.now c.args.fetched.now c.check-verdict.ensures.answers c.unwrap_err.ensures in
     record { answers = told.0; writes = told.1.0; runs = told.1.1 }
 
 pub returns-then-library-executable : goal.returns-then-library-executable
 returns-then-library-executable c =
-    let t = taken c.args.file.now c.check-verdict.ensures.answers c.in-Accepted.is in
-    let told = walk_missing c.args.file.now c.args.executable c.args.bools.now c.args.ints.now c.args.truth.now t c.args.fetched.now c.if-library-executable.true in
+    let t = taken c.args.file.now c.check-verdict.ensures.answers c.in-Ok.is in
+    let told = walk_missing c.args.file.now c.args.executable c.args.bools.now c.args.ints.now c.args.truth.now t c.args.fetched.now c.at.ensures c.if-library-executable.true in
     record { answers = told.0; writes = told.1.0; runs = told.1.1 }
 
 pub returns-then-bools-lt16 : goal.returns-then-bools-lt16
 returns-then-bools-lt16 c =
-    let t = taken c.args.file.now c.check-verdict.ensures.answers c.in-Accepted.is in
-    let told = walk_short c.args.file.now c.args.executable c.args.bools.now c.args.ints.now c.args.truth.now t c.if-library-executable.false c.args.fetched.now (elim c.then-bools-lt16.branch [ then-bools-lt16-via-then-bools-lt16 w ↦ inl w.if-bools-lt16.true | then-bools-lt16-via-else-bools-lt16+then-ints-lt4 w ↦ inr w.if-ints-lt4.true ]) in
+    let t = taken c.args.file.now c.check-verdict.ensures.answers c.in-Ok.is in
+    let told = walk_short c.args.file.now c.args.executable c.args.bools.now c.args.ints.now c.args.truth.now t c.if-library-executable.false c.args.fetched.now c.at-then-bools-lt16.ensures (elim c.then-bools-lt16.branch [ then-bools-lt16-via-then-bools-lt16 w ↦ inl w.if-bools-lt16.true | then-bools-lt16-via-else-bools-lt16+then-ints-lt4 w ↦ inr w.if-ints-lt4.true ]) in
     record { answers = told.0; writes = told.1.0; runs = told.1.1 }
 
 pub slice_bounds-loaded-end : goal.slice_bounds-loaded-end
 slice_bounds-loaded-end c =
-    let t = taken c.args.file.now c.check-verdict.ensures.answers c.in-Accepted.is in
-    loaded_enough c.args.file.now c.in-Accepted.library.program.words c.words_of-loaded.ensures t.words
+    let t = taken c.args.file.now c.check-verdict.ensures.answers c.in-Ok.is in
+    loaded_enough c.args.file.now c.in-Ok.library.program.words c.words_of-loaded.ensures t.words
 
 pub slice_bounds-words-end : goal.slice_bounds-words-end
 slice_bounds-words-end c =
-    let t = taken c.args.file.now c.check-verdict.ensures.answers c.in-Accepted.is in
-    sym (loaded_length c.args.file.now c.in-Accepted.library.program.words c.words_of-loaded.ensures t.words)
+    let t = taken c.args.file.now c.check-verdict.ensures.answers c.in-Ok.is in
+    sym (loaded_length c.args.file.now c.in-Ok.library.program.words c.words_of-loaded.ensures t.words)
 
-pub run_main-steps-requires : goal.run_main-steps-requires
-run_main-steps-requires c =
-    let l = c.in-Accepted.library in
-    let t = taken c.args.file.now {l = l} c.check-verdict.ensures.answers c.in-Accepted.is in
+pub run_main-requires : goal.run_main-requires
+run_main-requires c =
+    let l = c.in-Ok.library in
+    let t = taken c.args.file.now {l = l} c.check-verdict.ensures.answers c.in-Ok.is in
     let w = loaded_words_lem c.args.file.now l.program.words c.words_of-loaded.ensures t.words ∙ ap (λ x. words_of c.args.file.now x.program.words) t.same in
     rw c.executable_of-e.ensures (runs c.args.file.now c.args.executable c.args.bools.now c.args.ints.now c.args.truth.now t c.if-library-executable.false (λ r h. (c.type_inv.ints r).fits) w)
 
 pub returns : goal.returns
 returns c =
-    let l = c.in-Accepted.library in
-    let t = taken c.args.file.now {l = l} c.check-verdict.ensures.answers c.in-Accepted.is in
+    let l = c.in-Ok.library in
+    let t = taken c.args.file.now {l = l} c.check-verdict.ensures.answers c.in-Ok.is in
     let w = loaded_words_lem c.args.file.now l.program.words c.words_of-loaded.ensures t.words ∙ ap (λ x. words_of c.args.file.now x.program.words) t.same in
-    let r = c.run_main-steps.ensures in
+    let r = c.run_main.ensures in
     let x = c.executable_of-e.ensures in
     let told = walk_done c.args.file.now c.args.executable c.args.bools.now c.args.ints.now c.args.truth.now t c.if-library-executable.false (λ r h. (c.type_inv.ints r).fits) c.args.fetched.now c.if-bools-lt16.false c.if-ints-lt4.false w (rw x at r.steps) (rw x at r.writes) in
     record { answers = told.0; writes = told.1.0; runs = told.1.1 }

@@ -1,6 +1,0 @@
--- `operand::source_at` meets its contract. Assumes nothing.
-use Rattle.instruction.proofs.operand.source_at.Goals as goal
-
-pub returns : goal.returns
-returns c =
-    rw (c.field.ensures, c.field-2.ensures, c.field-3.ensures, c.field-4.ensures, c.field-5.ensures)

@@ -1,8 +1,0 @@
--- `moves::move_if` meets its contract. Assumes nothing.
-use Rattle.walk.proofs.moves.move_if.Goals as goal
-
-pub returns-then-taken : goal.returns-then-taken
-returns-then-taken c = rw c.if-taken.true
-
-pub returns-else-taken : goal.returns-else-taken
-returns-else-taken c = rw c.if-taken.false
