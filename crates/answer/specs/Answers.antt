@@ -1,4 +1,4 @@
--- What a call gives back, as document 01 counts it ('Numbers given back'): values, or a refusal. An enum that can refuse is read as one of these by a definition of its crate.
+-- What a call gives back, as document 01 counts it ('Numbers given back'): values, or a refusal. A `Result` with a `Refusal` is read as one of these by `answered`.
 -- Assumes nothing.
 use Rattle.std.specs.Prelude.{ℕ, Bool, cond, ltb, Result, Ok, Err}
 use Rattle.answer.specs.Reasons.{number_of}

@@ -12,7 +12,8 @@ range_of start count size = record { start = start; size = count * size }
 abbrev pub end_of : Range → ℕ
 end_of r = r.start.0 + r.size
 
--- ends inside a file of so many bytes. An empty range is asked too: whoever has nothing to test for an empty table does not ask
+-- ends inside a file of so many bytes. An empty range is asked too: whoever has nothing to test for an empty
+-- table does not ask
 abbrev pub inside : Range → ℕ → Bool
 inside r bytes = leb (end_of r) bytes
 

@@ -1,4 +1,5 @@
-// Byte offsets and word addresses, little-endian numbers in a file, ranges of bytes. Every function is total: a byte past the end reads as 0, and no sum wraps.
+// Byte offsets and word addresses, little-endian numbers in a file, ranges of bytes. Every function is total:
+// a byte past the end reads as 0, and no sum wraps.
 
 #![tactic(auto)]
 
@@ -15,7 +16,8 @@ pub struct WordAddress(pub u32);
 #[derive(Clone, Copy, Debug, PartialEq, Eq, PartialOrd, Ord)]
 pub struct ByteOffset(pub u64);
 
-// Where a word starts, counted in bytes from the start of the opcode table: the one way from a word address to a byte offset.
+// Where a word starts, counted in bytes from the start of the opcode table: the one way from a word address
+// to a byte offset.
 pub fn offset_of_word(a: WordAddress) -> ByteOffset
     ensures { result ≡ offset_of_word a }
 {
@@ -109,7 +111,8 @@ pub fn is_inside(r: Range, file: &[u8]) -> bool
     r.size <= length && r.start.0 <= length - r.size
 }
 
-// Whether the ranges share a byte: each starts before the other ends. A distance stops at 0, and is below no size of 0.
+// Whether the ranges share a byte: each starts before the other ends. A distance stops at 0, and no distance
+// is below the size of an empty range.
 pub fn shares_byte(a: Range, b: Range) -> bool
     ensures { result ≡ share a b }
 {

@@ -1,4 +1,5 @@
--- The laws of bit fields, over position and width: packing and taking apart undo one another, and what is packed stays below the power.
+-- The laws of bit fields, over position and width: packing and taking apart undo one another, and what is
+-- packed stays below the power.
 -- Every layout of a word, of a descriptor or of a float is an instance. Assumes nothing.
 use mathlib.Core.Path.{◌≡◌, refl, ap, ap₂, sym, ◌∙◌}
 use mathlib.Core.List.{List, [], ◌∷◌}

@@ -1,4 +1,5 @@
--- A test that antt computes at each number of a range holds at every number of the range: a table's rule, proved once. Assumes nothing.
+-- A test that antt computes at each number of a range holds at every number of the range: a table's rule,
+-- proved once. Assumes nothing.
 use mathlib.Core.Path.{◌≡◌, refl}
 use mathlib.Core.Bool.{Bool, true, false, not, ◌&&◌, ◌||◌}
 use Prim.Native.Nat.{ℕ, zero, suc, ◌+◌, ◌<◌, ◌≤◌}

@@ -1,4 +1,5 @@
--- Bit fields, by position and width. A layout is a list of widths, from bit 0 up. Document 01, 'What a statement has to tie down'.
+-- Bit fields, by position and width. A layout is a list of widths, from bit 0 up. Document 01, 'What a
+-- statement has to tie down'.
 -- Assumes nothing.
 use Rattle.std.specs.Prelude.{ℕ, ◌+◌, ◌*◌, ◌/◌, ◌%◌, ◌^◌, Bool, true, false, ◌&&◌, List, [], ◌∷◌, ltb}
 

@@ -103,15 +103,15 @@ module _ (C : Code) (a : Allowed) (part : Part) (total : ℕ) (m₀ : List Bool)
       let (here, rest) = both (goes_on (C.control p) 0 0) (no_tests C (p + 1) n) e in
       let x : p + suc n ≡ p + 1 + n = omega arith in
       let y : t + part.weight * suc n ≡ t + part.weight + part.weight * n = omega arith in
-      let next = standing_known C a part total m₀ h few s (omega arith) (omega (arith, y)) b (untested_goes (C.control p) (get_or costs p 0) part.to.0 here) in
+      let next = standing_known s h few (omega arith) (omega (arith, y)) b (untested_goes (C.control p) (get_or costs p 0) part.to.0 here) in
       rw (x, y) (untested_standing n next (omega arith) (omega (arith, y)) rest)
 
 -- a part without tests
 untested_scans : (C : Code) (a : Allowed) (r : Part) (total n : ℕ) {m : List Bool} {costs depths : List ℕ} {o : Outcome} → Ready C a r m costs depths → a.most < 2 ^ 32 → r.from.0 + n ≡ r.to.0 → total + r.weight * n ≤ a.most
     → no_tests C r.from.0 n ≡ true → o.total ≡ total + r.weight * n → o.deep ≡ deep_of r.opens → Scans C (rules_of a) r total m (Ok o) (mark_all m r.from.0 n) costs depths
 untested_scans C a r total n {m} y b e u plain z deep =
-    let s = untested_standing C a r total m y.within y.few b n (standing_first C a r total m y (omega arith) refl) (omega arith) u plain in
-    standing_end C a r total m y.within y.few s (omega arith) z deep
+    let s = untested_standing C a r total m y.within y.few b n (standing_first y (omega arith) refl) (omega arith) u plain in
+    standing_end s y.within y.few (omega arith) z deep
 
 max_self : (n : ℕ) → max n n ≡ n
 max_self n = omega (arith, le-max_left n n, max-le {a = n} {b = n} {k = n} (omega arith) (omega arith))
@@ -143,4 +143,4 @@ untested_both C a r next total p size m y h within b size_is fits plain e marked
     let g = untested_scans C a (after_part r next) (total + r.weight * n) k {o = record { total = total + r.weight * n + r.weight * k; deep = deep_of r.opens }} (ready_second next y f within) b (omega arith) (omega (arith, sum)) (rw at at second) refl refl in
     let deep : deep_of r.opens ≡ deepest (deep_of r.opens) (deep_of r.opens) = rw (max_self r.opens.calls, max_self r.opens.ifs, max_self r.opens.loops) in
     let marks : mark_all (mark_all m r.from.0 n) r.to.0 k ≡ mark_all m r.from.0 size = rw both-sizes (rw at at (mark_split m r.from.0 n k)) in
-    rw (e, marked, ← marks) (both_passed C a r next total p m y h f refl g refl deep (rw sum) (opened_none r.opens))
+    rw (e, marked, ← marks) (both_passed y total p h f refl g refl deep (rw sum) (opened_none r.opens))

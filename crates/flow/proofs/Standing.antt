@@ -22,28 +22,23 @@ use Rattle.flow.specs.declared.scan.Outcome.{Outcome}
 use Rattle.flow.proofs.Again.{goes_next}
 use Rattle.flow.proofs.Passing.{covers_self, covers_trans, covers_set, Prefix, prefix_none, prefix_next, prefix_one, prefix_two, prefix_end}
 use Rattle.flow.proofs.Remembering.{memory_grows, memory_more, memory_next, Again, recalled_flow, recalled_left, recalled_both_flow, recalled_both_left, remembered, remembered_both, both_left, cost_is}
-use Rattle.flow.proofs.Replay.{scan_end, scan_27, scan_refuse, scan_next, scan_one_stop, scan_one, scan_two_stop, scan_two, both_stop, both_go}
+use Rattle.flow.proofs.Replay.{scan_end, scan_27, scan_refuse, scan_next, scan_one_stop, scan_one, scan_two_stop, scan_two, both_go}
 use Rattle.flow.proofs.Tests.{apart}
 
 module _ (C : Code) (a : Allowed) (part : Part) (total : ℕ) (m₀ : List Bool) where
-  abbrev E : ℕ
-  E = part.to.0
-
-  abbrev w : ℕ
-  w = part.weight
-
   -- before the own word p, with total t, the most that was open, and the marks and memories
   pub record Standing (m : List Bool) (costs depths : List ℕ) (p t : ℕ) (d : Deep) : Type 0 where
     pub from : part.from.0 ≤ p
     pub small : t < 2 ^ 32
-    pub flow : scan_of C (rules_of a) (part_of part.opens w p E) t m ≡ scan_of C (rules_of a) part total m₀
+    pub flow : scan_of C (rules_of a) (part_of part.opens part.weight p part.to.0) t m ≡ scan_of C (rules_of a) part total m₀
     pub grown : Covers m₀ m
     pub long : length m ≡ 512
     pub memory : Memory C (rules_of a) m costs depths
     pub before : Prefix C (rules_of a) part total p t d m
 
+module _ {C : Code} {a : Allowed} {part : Part} {total : ℕ} {m₀ : List Bool} where
   pub standing_first : {costs depths : List ℕ} {d : Deep} → Ready C a part m₀ costs depths → total < 2 ^ 32 → d ≡ deep_of part.opens
-      → Standing m₀ costs depths part.from.0 total d
+      → Standing C a part total m₀ m₀ costs depths part.from.0 total d
   standing_first r small e =
       record {
         from = omega arith;
@@ -55,14 +50,14 @@ module _ (C : Code) (a : Allowed) (part : Part) (total : ℕ) (m₀ : List Bool)
         before = rw e (prefix_none C (rules_of a) part total m₀ r.under);
       }
 
-  module _ {m : List Bool} {costs depths : List ℕ} {p t : ℕ} {d : Deep} (h : E ≤ C.words) (few : C.words ≤ 512) (s : Standing m costs depths p t d) where
+  module _ {m : List Bool} {costs depths : List ℕ} {p t : ℕ} {d : Deep} (s : Standing C a part total m₀ m costs depths p t d) (h : part.to.0 ≤ C.words) (few : C.words ≤ 512) where
     -- a fault
     stopped : {o : Result Outcome Refusal} {r : Refusal} {m₁ : List Bool} {costs₁ depths₁ : List ℕ} → o ≡ Err r → scanned (counted o) m₁ ≡ scan_of C (rules_of a) part total m₀ → Covers m₀ m₁ → length m₁ ≡ 512
         → Memory C (rules_of a) m₁ costs₁ depths₁ → Scans C (rules_of a) part total m₀ o m₁ costs₁ depths₁
     stopped e f g l y = record { flow = f; grown = g; long = l; memory = y; left = λ u z. apart (cc) }
 
     -- the region's end
-    pub standing_end : {u : Outcome} → E ≤ p → u.total ≡ t → u.deep ≡ d → Scans C (rules_of a) part total m₀ (Ok u) m costs depths
+    pub standing_end : {u : Outcome} → part.to.0 ≤ p → u.total ≡ t → u.deep ≡ d → Scans C (rules_of a) part total m₀ (Ok u) m costs depths
     standing_end {u} l e f =
         record {
           flow = rw e (scan_end C (rules_of a) part p t m h l ∙ s.flow);
@@ -72,11 +67,11 @@ module _ (C : Code) (a : Allowed) (part : Part) (total : ℕ) (m₀ : List Bool)
           left = λ v z. let y : u ≡ v = cc in rw (← y, e, f) (prefix_end C (rules_of a) part total h s.before l);
         }
 
-    module _ (l : p < E) where
-      pub standing_27 : {r : Refusal} → a.most < t + w → r ≡ record { reason = TooLong; place = p } → Scans C (rules_of a) part total m₀ (Err r) m costs depths
+    module _ (l : p < part.to.0) where
+      pub standing_27 : {r : Refusal} → a.most < t + part.weight → r ≡ record { reason = TooLong; place = p } → Scans C (rules_of a) part total m₀ (Err r) m costs depths
       standing_27 u e = rw e (stopped refl (scan_27 C (rules_of a) part p t m h l u ∙ s.flow) s.grown s.long s.memory)
 
-      module _ (u : t + w ≤ a.most) where
+      module _ (u : t + part.weight ≤ a.most) where
         abbrev m' : List Bool
         m' = set m p true
 
@@ -94,7 +89,7 @@ module _ (C : Code) (a : Allowed) (part : Part) (total : ℕ) (m₀ : List Bool)
 
         -- a word that goes on
         module _ (b : a.most < 2 ^ 32) where
-          stands_on : {costs₁ : List ℕ} → given Next ≡ look_of C (rules_of a) part.opens w p E → Memory C (rules_of a) m' costs₁ depths → Standing m' costs₁ depths (p + 1) (t + w) d
+          stands_on : {costs₁ : List ℕ} → given Next ≡ look_of C (rules_of a) part.opens part.weight p part.to.0 → Memory C (rules_of a) m' costs₁ depths → Standing C a part total m₀ m' costs₁ depths (p + 1) (t + part.weight) d
           stands_on e y =
               record {
                 from = omega (arith, s.from);
@@ -106,22 +101,22 @@ module _ (C : Code) (a : Allowed) (part : Part) (total : ℕ) (m₀ : List Bool)
                 before = prefix_next C (rules_of a) part total h s.before l here e;
               }
 
-          pub standing_known : goes_on (C.control p) (get_or costs p 0) E ≡ true → Standing m' costs depths (p + 1) (t + w) d
-          standing_known k = stands_on (goes_next C (rules_of a) m part.opens w p E (get_or costs p 0) (deep_at depths p) k (s.memory.recalls p)) memory'
+          pub standing_known : goes_on (C.control p) (get_or costs p 0) part.to.0 ≡ true → Standing C a part total m₀ m' costs depths (p + 1) (t + part.weight) d
+          standing_known k = stands_on (goes_next C (rules_of a) m part.opens part.weight p part.to.0 (get_or costs p 0) (deep_at depths p) k (s.memory.recalls p)) memory'
 
-          pub standing_next : given Next ≡ look_of C (rules_of a) part.opens w p E → Standing m' (set costs p 1) depths (p + 1) (t + w) d
-          standing_next e = stands_on e (memory_next C (rules_of a) memory' part.opens w p E (omega arith) e)
+          pub standing_next : given Next ≡ look_of C (rules_of a) part.opens part.weight p part.to.0 → Standing C a part total m₀ m' (set costs p 1) depths (p + 1) (t + part.weight) d
+          standing_next e = stands_on e (memory_next C (rules_of a) memory' part.opens part.weight p part.to.0 (omega arith) e)
 
-        pub standing_refuse : {r : Refusal} → refused (number_of r.reason) r.place ≡ look_of C (rules_of a) part.opens w p E → Scans C (rules_of a) part total m₀ (Err r) m' costs depths
+        pub standing_refuse : {r : Refusal} → refused (number_of r.reason) r.place ≡ look_of C (rules_of a) part.opens part.weight p part.to.0 → Scans C (rules_of a) part total m₀ (Err r) m' costs depths
         standing_refuse e = stopped refl (scan_refuse C (rules_of a) part p t m h l u e ∙ s.flow) grown' long' memory'
 
         -- a LOOP or a CALL, whose part was entered
-        module _ {r : Part} {next : WordAddress} (e : given (One r next) ≡ look_of C (rules_of a) part.opens w p E) {o : Result Outcome Refusal} {m₁ : List Bool} {costs₁ depths₁ : List ℕ}
-            (f : Scans C (rules_of a) r (t + w) m' o m₁ costs₁ depths₁) where
+        module _ {r : Part} {next : WordAddress} (e : given (One r next) ≡ look_of C (rules_of a) part.opens part.weight p part.to.0) {o : Result Outcome Refusal} {m₁ : List Bool} {costs₁ depths₁ : List ℕ}
+            (f : Scans C (rules_of a) r (t + part.weight) m' o m₁ costs₁ depths₁) where
           pub one_stopped : {b : Refusal} → o ≡ Err b → Scans C (rules_of a) part total m₀ o m₁ costs₁ depths₁
           one_stopped z = stopped z (scan_one_stop C (rules_of a) part p t m h l u e f.flow (ap counted z) ∙ s.flow) (covers_trans grown' f.grown) f.long f.memory
 
-          pub one_passed : {v : Outcome} {d₁ : Deep} → p ≤ next.0 → v.total < 2 ^ 32 → o ≡ Ok v → d₁ ≡ deepest d v.deep → Standing m₁ costs₁ depths₁ next.0 v.total d₁
+          pub one_passed : {v : Outcome} {d₁ : Deep} → p ≤ next.0 → v.total < 2 ^ 32 → o ≡ Ok v → d₁ ≡ deepest d v.deep → Standing C a part total m₀ m₁ costs₁ depths₁ next.0 v.total d₁
           one_passed {v} on small z y =
               record {
                 from = omega (arith, s.from);
@@ -134,12 +129,12 @@ module _ (C : Code) (a : Allowed) (part : Part) (total : ℕ) (m₀ : List Bool)
               }
 
         -- an IF, whose parts were entered
-        module _ {r : Part} {next : WordAddress} (e : given (Two r next) ≡ look_of C (rules_of a) part.opens w p E) {o : Result Outcome Refusal} {m₁ : List Bool} {costs₁ depths₁ : List ℕ}
-            (f : ScansBoth C (rules_of a) r next (t + w) m' o m₁ costs₁ depths₁) where
+        module _ {r : Part} {next : WordAddress} (e : given (Two r next) ≡ look_of C (rules_of a) part.opens part.weight p part.to.0) {o : Result Outcome Refusal} {m₁ : List Bool} {costs₁ depths₁ : List ℕ}
+            (f : ScansBoth C (rules_of a) r next (t + part.weight) m' o m₁ costs₁ depths₁) where
           pub two_stopped : {b : Refusal} → o ≡ Err b → Scans C (rules_of a) part total m₀ o m₁ costs₁ depths₁
           two_stopped z = stopped z (scan_two_stop C (rules_of a) part p t m h l u e f.flow (ap counted z) ∙ s.flow) (covers_trans grown' f.grown) f.long f.memory
 
-          pub two_passed : {v : Outcome} {d₁ : Deep} → p ≤ next.0 → v.total < 2 ^ 32 → o ≡ Ok v → d₁ ≡ deepest d v.deep → Standing m₁ costs₁ depths₁ next.0 v.total d₁
+          pub two_passed : {v : Outcome} {d₁ : Deep} → p ≤ next.0 → v.total < 2 ^ 32 → o ≡ Ok v → d₁ ≡ deepest d v.deep → Standing C a part total m₀ m₁ costs₁ depths₁ next.0 v.total d₁
           two_passed {v} on small z y =
               record {
                 from = omega (arith, s.from);
@@ -169,7 +164,7 @@ pub few_beyond : (a : Allowed) (d : Deep) (x : Opens) {e : Deep} → e ≡ beyon
 few_beyond a d x same h g = rw same (omega (arith, h.0, g.0), omega (arith, h.1, g.1), omega (arith, h.2, g.2))
 
 -- entering the part that a LOOP or a CALL at p asks for: it is remembered and fits; or it was scanned, and is remembered then
-module _ (C : Code) (a : Allowed) (r : Part) (t p : ℕ) (m : List Bool) {costs depths : List ℕ} (y : Ready C a r m costs depths) (h : Asks (C.control p) p r) where
+module _ {C : Code} {a : Allowed} {r : Part} {m : List Bool} {costs depths : List ℕ} (y : Ready C a r m costs depths) (t p : ℕ) (h : Asks (C.control p) p r) where
   pub recalled_scans : {o : Outcome} → Again C (rules_of a) r t (get_or costs p 0) (deep_at depths p) m → o ≡ passed_over r t (get_or costs p 0) (deep_at depths p)
       → Scans C (rules_of a) r t m (Ok o) m costs depths
   recalled_scans g e =
@@ -199,7 +194,7 @@ module _ (C : Code) (a : Allowed) (r : Part) (t p : ℕ) (m : List Bool) {costs 
         }
 
 -- .. the two parts of an IF, with no LOOP open in the same main or called region
-module _ (C : Code) (a : Allowed) (r : Part) (next : WordAddress) (t p : ℕ) (m : List Bool) {costs depths : List ℕ} (y : Ready C a r m costs depths) (h : AsksBoth (C.control p) p r next) where
+module _ {C : Code} {a : Allowed} {r : Part} {next : WordAddress} {m : List Bool} {costs depths : List ℕ} (y : Ready C a r m costs depths) (t p : ℕ) (h : AsksBoth (C.control p) p r next) where
   pub recalled_both_scans : {o : Outcome} → r.opens.looped ≡ false → Again C (rules_of a) r t (get_or costs p 0) (deep_at depths p) m → o ≡ passed_over r t (get_or costs p 0) (deep_at depths p)
       → ScansBoth C (rules_of a) r next t m (Ok o) m costs depths
   recalled_both_scans b g e =
@@ -214,16 +209,9 @@ module _ (C : Code) (a : Allowed) (r : Part) (next : WordAddress) (t p : ℕ) (m
         left = λ u z. let same : passed_over r t k d ≡ u = cc in rw (← same) (recalled_both_left C (rules_of a) r t k d m (C.control p) p next h b q g);
       })
 
-  -- a fault in the first, a fault in the second, and none
+  -- scanned without a fault
   module _ {o : Result Outcome Refusal} {m₁ : List Bool} {costs₁ depths₁ : List ℕ} (f : Scans C (rules_of a) r t m o m₁ costs₁ depths₁) where
-    pub both_stopped : {b : Refusal} → o ≡ Err b → ScansBoth C (rules_of a) r next t m o m₁ costs₁ depths₁
-    both_stopped z = record { flow = both_stop C (rules_of a) r next t m f.flow (ap counted z); grown = f.grown; long = f.long; memory = f.memory; left = λ u e. apart (cc) }
-
     module _ {v : Outcome} (z : o ≡ Ok v) {o' : Result Outcome Refusal} {m₂ : List Bool} {costs₂ depths₂ : List ℕ} (f' : Scans C (rules_of a) (after_part r next) v.total m₁ o' m₂ costs₂ depths₂) where
-      pub both_stopped_2 : {b : Refusal} → o' ≡ Err b → ScansBoth C (rules_of a) r next t m o' m₂ costs₂ depths₂
-      both_stopped_2 e =
-          record { flow = both_go C (rules_of a) r next t m f.flow (ap counted z) f'.flow; grown = covers_trans f.grown f'.grown; long = f'.long; memory = f'.memory; left = λ u g. apart (cc) }
-
       module _ {v' : Outcome} {d : Deep} (z' : o' ≡ Ok v') (e : d ≡ deepest v.deep v'.deep) where
         pub left_both : LeftBoth C (rules_of a) r next t v'.total d m₂
         left_both = rw e (both_left C (rules_of a) r next (f.left v z) (f'.left v' z') f'.grown)

@@ -138,8 +138,8 @@ fn look_jump(words: &[u32], p: u32, end: u32, dst: u32) -> Result<Look, Refusal>
     }
 }
 
-// The word at `p`, in a region of which what is left is a part. An unknown word passes: 9 is a test of the
-// whole library.
+// The word at `p` of a region, of which what is open, the weight and the end are looked at. An unknown word
+// passes: 9 is a test of the whole library.
 #[tactic(auto, unfolding(crate::specs::Inside::look_of, crate::specs::Visits::fault_at, crate::specs::Inside::look_if, crate::specs::Inside::look_loop, crate::specs::Inside::look_call, crate::specs::Inside::look_jump))]
 pub(crate) fn look_at(words: &[u32], allowed: Allowed, part: Part, p: u32) -> Result<Look, Refusal>
     requires { (part.to.0 ≤ length words.now) × (p < part.to.0) × (part.weight ≤ 65536) × (length words.now ≤ 512) }

@@ -134,8 +134,8 @@ code_of op format parts = word_if (is_format (entry_format op) format && fit (la
 abbrev pub word_of : Fields → Option ℕ
 word_of f = code_of (number_of f) (format_for f) (parts_of f)
 
--- 31: 'a field to encode exceeds its bits,
--- or the operation's number is not the lowest of an entry of its format'
+-- 31: 'a field to encode exceeds its bits, or the
+-- operation's number is not the lowest of an entry of its format'
 abbrev pub or_refused : Option ℕ → Answer ℕ
 or_refused (Some w) = given w
 or_refused None = refused 31 0

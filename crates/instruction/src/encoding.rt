@@ -50,8 +50,8 @@ fn coded(op: u32, format: Format, parts: &[u32]) -> Option<u32>
     }
 }
 
-// The word that has these fields. No word has them if one exceeds its bits or the operation's number is not
-// the lowest opcode of an entry of the format.
+// The word that has these fields. None has them if one exceeds its bits or the operation's number is not the
+// lowest opcode of an entry of the format.
 fn word_of(fields: Fields) -> Option<u32>
     ensures { result ≡ word_of fields }
 {
@@ -87,6 +87,7 @@ fn word_of(fields: Fields) -> Option<u32>
     }
 }
 
+// The word that has these fields; refused if no word has them.
 #[tactic(auto, unfolding(crate::specs::Words::encode_of))]
 pub fn encode(fields: Fields) -> Result<u32, Refusal>
     ensures { answered result ≡ encode_of fields }

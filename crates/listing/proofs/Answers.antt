@@ -1,4 +1,5 @@
--- What the whole check says of a library that is listed, and the records of its listing and its report. Assumes nothing.
+-- What the whole check says of a library that is listed, and the records of its listing and its report.
+-- Assumes nothing.
 use mathlib.Core.Path.{◌≡◌, refl, sym, ap, ◌∙◌}
 use mathlib.Core.List.{List, ◌++◌}
 use Prim.Native.Nat.{ℕ, ◌+◌, ◌*◌, ◌<◌}

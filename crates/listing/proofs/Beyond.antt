@@ -1,4 +1,5 @@
--- What is in the buffer after a listing or a report: record i stands at i × 80, and nothing beyond the records is touched. Assumes nothing.
+-- What is in the buffer after a listing or a report: record i stands at i × 80, and nothing beyond the
+-- records is touched. Assumes nothing.
 use mathlib.Core.Path.{◌≡◌, refl, ◌∙◌}
 use mathlib.Core.Bool.{Bool, true, false}
 use mathlib.Core.List.{List, ◌++◌}

@@ -1,4 +1,5 @@
--- The example of document 01, a whole file: its listing and its report in buffers that are a byte short, just long enough and a byte too long. Assumes nothing.
+-- The example of document 01, a whole file: its listing and its report in buffers that are a byte short, just
+-- long enough and a byte too long. Assumes nothing.
 use mathlib.Core.Path.{◌≡◌, refl}
 use mathlib.Core.List.{List, [], ◌∷◌, ◌++◌, map}
 use Prim.Native.Nat.{ℕ}
@@ -17,10 +18,9 @@ use Rattle.instruction.specs.Operations.{operations, format_of}
 use Rattle.instruction.specs.Words.{decode_of}
 use Rattle.listing.specs.Listing.{records_of, list_answer, listed_bytes, summary_answer, summary_bytes}
 use Rattle.tables.specs.Names.{meets0, names_end}
-use Rattle.text.specs.Operands.{target_text, one_source, two_sources, of_format3, operands_in}
 use Rattle.text.specs.Pieces.{bytes, digits, decimal, lettered, labelled, name_text}
-use Rattle.text.specs.Records.{operation_text, line_text, head_text, counts_text, report_text}
-use Rattle.text.specs.Registers.{register_text, sign_text, index_text, selectors_text, source_text, written_text, mask_text, written_register, destination_text}
+use Rattle.text.specs.Records.{line_text, report_text}
+use Rattle.text.specs.Registers.{source_text, destination_text}
 use Rattle.verifier.specs.Executables.{one_executable, ones_in, report_of}
 use Rattle.verifier.specs.Lists.{list_of}
 use Rattle.verifier.specs.Verdict.{whole_fault, check_of}

@@ -37,12 +37,13 @@ summary_at file p i = record_of 80 (report_text i (report_of file p i))
 abbrev pub room : ℕ → ℕ → Answer ℕ
 room size n = or_short (ltb size (n * 80)) (given (n * 80))
 
--- the buffer's final bytes: the records in the place of its first, and none beyond; as they were where the answer is a refusal
+-- the buffer's final bytes: the records in the place of its first, and none beyond; as they were where the
+-- answer is a refusal
 abbrev pub writes : Answer ℕ → List ℕ → List ℕ → List ℕ
 writes (given n) records old = sets old 0 records
 writes (refused number place) records old = old
 
--- the same of records that a closure makes, where each has a value of its own
+-- the same of records that a closure makes: if what it makes for each i must be f i, the records of f are written
 abbrev pub WritesEach : (ℕ → List ℕ → Type 0) → ℕ → Answer ℕ → List ℕ → List ℕ → Type 0
 WritesEach Makes n answer old new = (f : ℕ → List ℕ) → ((i : ℕ) (r : List ℕ) → i < n → Makes i r → r ≡ f i) → new ≡ writes answer (records_of f n) old
 
@@ -76,7 +77,7 @@ summary_answer file size = summary_in size (check_of file)
 unfoldable pub summary_bytes : List ℕ → List ℕ → List ℕ
 summary_bytes file old = writes (summary_answer file (length old)) (summaries_in file (check_of file)) old
 
--- what a program writes of an answer: that many bytes of the text, as far as it has them; or the refusal's record
+-- what a program writes: so many bytes of the text, as far as it has them; or the refusal's record
 abbrev pub text_of : Answer ℕ → List ℕ → List ℕ
 text_of (given n) text = take n text
 text_of (refused number place) text = record_of 80 (refused_text number place)

@@ -1,5 +1,5 @@
-// A whole library as text, in a lent buffer: the listing of its words, the report of its executables. Nothing is
-// written where the library is refused or the buffer is too short.
+// A whole library as text, in a lent buffer: the listing of its words, the report of its executables. Nothing
+// is written where the library is refused or the buffer is too short.
 
 #![tactic(auto)]
 
@@ -97,7 +97,7 @@ pub fn summarize(file: &[u8], out: &mut [u8]) -> Result<u32, Refusal>
     )
 }
 
-// Writes to an output what a call answered: the bytes that it wrote of the text, or the record of its refusal.
+// Writes what a call answered: the bytes that it wrote of the text, or the record of its refusal.
 pub fn write_text<W: Write>(
     output: &mut W,
     answer: Result<u32, Refusal>,

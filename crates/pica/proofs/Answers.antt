@@ -1,4 +1,4 @@
--- What the calls promise beside their answers, from what the functions that they call promise. Assumes nothing.
+-- What the calls promise beside their answers, from what the calls below promise. Assumes nothing.
 use mathlib.Core.Path.{◌≡◌, refl, sym, ap, ◌∙◌}
 use mathlib.Core.Bool.{Bool, true, false, cond, not}
 use mathlib.Core.List.{List}

@@ -1,4 +1,5 @@
--- What a call that replies answers, in its order: every other refusal, then 30, then the value with its numbers. Assumes nothing.
+-- What a call that replies answers, in its order: every other refusal, then 30, then the value with its
+-- numbers. Assumes nothing.
 use mathlib.Core.Path.{◌≡◌}
 use mathlib.Core.List.{List}
 use Prim.Native.Nat.{ℕ, ◌≤◌, ◌<◌}

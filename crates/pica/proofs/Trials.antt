@@ -1,4 +1,5 @@
--- The numbers that the calls for C answer, computed: a word of each format with its fields told apart, the edges of encoding, a report, each kind of constant. Assumes nothing.
+-- The numbers that the calls for C answer, computed: a word of each format with its fields told apart, the
+-- edges of encoding, a report, each kind of constant. Assumes nothing.
 use mathlib.Core.Path.{◌≡◌, refl}
 use mathlib.Core.Bool.{true, false}
 use mathlib.Core.List.{[], ◌∷◌, map}
@@ -51,7 +52,8 @@ buffers : map (λ l. buffer_after l (decode_reply 0x84000005 (length l))) ((1 �
 unfolding decode_of format_of operations
 buffers = refl
 
--- the word; with a ninth number; a surplus field; seven numbers; no such format; a field that is too wide; an operation of another format
+-- the word; with a ninth number; a surplus field; seven numbers; no such format; a field that is too wide; an
+-- operation of another format
 encoded :
     encode_numbers 0 (0x21 ∷ 5 ∷ 0 ∷ 0 ∷ 0 ∷ 0 ∷ 0 ∷ 0 ∷ [])
     ∷ encode_numbers 0 (0x21 ∷ 5 ∷ 0 ∷ 0 ∷ 0 ∷ 0 ∷ 0 ∷ 0 ∷ 1 ∷ [])

@@ -29,7 +29,8 @@ byte_numbers v = v.x ∷ v.y ∷ v.z ∷ v.w ∷ []
 abbrev pub pattern_numbers : FloatVector → List ℕ
 pattern_numbers v = to_bits binary32 v.x ∷ to_bits binary32 v.y ∷ to_bits binary32 v.z ∷ to_bits binary32 v.w ∷ []
 
--- a NaN has no pattern of its own. No component of a constant that is handed out is one (proofs/Answers.antt, no_nans)
+-- a NaN has no pattern of its own. No component of a constant that is handed out is one (proofs/Answers.antt,
+-- no_nans)
 abbrev pub NotNan : Float → Type 0
 NotNan x = T (not (is_nan x))
 

@@ -25,7 +25,7 @@ report_numbers t = t.shader_type ∷ t.main.0 ∷ t.endmain.0 ∷ t.inputs ∷ t
 abbrev pub report_reply : List ℕ → ℕ → ℕ → Answer Reply
 report_reply file index size = fitted size (map_answer (λ t. reply 8 (report_numbers t)) (report_answer file index))
 
--- demand 3: where 8 is answered, the first eight numbers of the buffer are those of a report that every run keeps to
+-- demand 3: where 8 is answered, the buffer's first eight numbers are a report's that every run keeps to
 pub record Kept (file : List ℕ) (index : ℕ) (out : List ℕ) : Type 0 where
   pub report : Report
   pub numbers : take 8 out ≡ report_numbers report

@@ -4,7 +4,8 @@ use Rattle.std.specs.Prelude.{◌≡◌, List, ℕ, ◌+◌, ◌*◌, ◌/◌, �
 use Rattle.std.proofs.lemmas.List.Edits.{sets}
 use Rattle.answer.specs.Answers.{Answer, given, refused, or_short}
 
--- 'the refusal's number in the upper 32 bits (0: none), in the lower the place, or without a refusal the value'
+-- 'the refusal's number in the upper 32 bits (0: none), in the lower the place, or without a refusal
+-- the value'
 abbrev pub upper_of : Answer ℕ → ℕ
 upper_of (given value) = 0
 upper_of (refused number place) = number
@@ -13,7 +14,8 @@ abbrev pub lower_of : Answer ℕ → ℕ
 lower_of (given value) = value
 lower_of (refused number place) = place
 
--- the number that a call answers: its two halves, which no value and no place exceeds. A refusal's number is not 0
+-- the number that a call answers: its two halves, which no value and no place exceeds. A refusal's number
+-- is not 0
 pub record Answered (a : Answer ℕ) (r : ℕ) : Type 0 where
   pub number : r ≡ upper_of a * 2 ^ 32 + lower_of a
   pub upper : r / 2 ^ 32 ≡ upper_of a

@@ -20,7 +20,8 @@ format_number (Format4 op rest winding primemit vtxid) = 7
 format_number (Format5 op desc src3 src2 src1 idx2 dst) = 8
 format_number (Format5i op desc src3 src2 src1 idx3 dst) = 9
 
--- 'the operation's number, the fields from bit 0 up without opcode and unnamed bits, then the unnamed bits where the format has some'
+-- 'the operation's number, the fields from bit 0 up without opcode and unnamed bits, then the unnamed bits
+-- where the format has some'
 abbrev pub field_numbers : Fields → List ℕ
 field_numbers (Format0 op rest) = op ∷ rest ∷ []
 field_numbers (Format1 op desc src2 src1 idx1 dst) = op ∷ desc ∷ src2 ∷ src1 ∷ idx1 ∷ dst ∷ []
@@ -63,7 +64,8 @@ abbrev pub zeros : List ℕ → Bool
 zeros [] = true
 zeros (x ∷ xs) = eqb x 0 && zeros xs
 
--- '31 also for a format over 9, fewer than 8 fields, or a field beyond the format's that is not 0': of the first 8, those after the format's fields
+-- '31 also for a format over 9, fewer than 8 fields, or a field beyond the format's that is not 0': of the
+-- first 8, those after the format's fields
 unfoldable pub encode_numbers : ℕ → List ℕ → Answer ℕ
 encode_numbers format l =
     let f = fields_by format l in

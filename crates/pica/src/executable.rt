@@ -10,7 +10,8 @@ use answer::Refusal;
 use tables::{ByteVector, Constant, FloatVector};
 use walk::{constant, walk};
 
-// The control walk of an executable: how many steps were made, and in `fetched` the index of each fetched word, as many as fit.
+// The control walk of an executable: how many steps were made, and in `fetched` the index of each fetched
+// word, as many as fit.
 #[unsafe(no_mangle)]
 pub extern "C" fn pica_walk(
     file: &[u8],

@@ -1,5 +1,5 @@
-// The fields of a word as numbers: the operation's, the named fields from bit 0 up, and last the bits that the
-// format does not name.
+// The fields of a word as numbers: the operation's, the named fields from bit 0 up, and last the bits that
+// the format does not name.
 ghost use Rattle.std.specs.Prelude.{◌≡◌, leb, Some, None, if◌then◌else◌};
 ghost use Rattle.pica.specs.Words.{format_number, eight_numbers, fields_by};
 

@@ -1,4 +1,5 @@
-// The calls for C and Rust: numbers and slices alone. Each answers one number of 64 bits: a refusal's number in the upper half, which is 0 if there is none, and in the lower its place, or a value without a refusal.
+// The calls for C and Rust: numbers and slices alone. Each answers one number of 64 bits: a refusal's number
+// in the upper half, which is 0 if there is none, and in the lower its place, or a value without a refusal.
 
 #![tactic(auto)]
 

@@ -15,8 +15,8 @@ pub(crate) fn packed(answer: Result<u32, Refusal>) -> u64
     }
 }
 
-// Writes the numbers that belong to a value to the start of a buffer, and answers the value; or refuses a buffer
-// that is too short for them.
+// Writes the numbers that belong to a value to the start of a buffer, and answers the value; or refuses a
+// buffer that is too short for them.
 #[tactic(auto, using(crate::proofs::Laws::put_first))]
 pub(crate) fn replied(value: u32, numbers: &[u32], out: &mut [u32]) -> Result<u32, Refusal>
     ensures answers { answered result ≡ map_answer value_of (fitted (length out.old) (given (reply value numbers.now))) }

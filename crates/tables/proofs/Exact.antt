@@ -8,7 +8,8 @@ use lib.Dec.{eqb, leb}
 use lib.Ieee.{binary32, of_bits, of_fields, odd}
 use lib.Ieee.Exact.{HasValue, odd_sign}
 use lib.Pow.{pow-add}
-use borrow.Author.Tests.{le-leb, lt-leb, ne_eqb, eqb-true, eqb-false}
+use borrow.Author.Tests.{ne_eqb, eqb-true, eqb-false}
+use Rattle.std.proofs.lemmas.Bool.Decides.{nat_tests}
 use Rattle.tables.specs.Constants.{f32_of}
 use Rattle.tables.specs.Float24.{fraction, exponent, sign, f32_bits}
 use Rattle.tables.proofs.Laws.{bits_digits, bits_power, normal_bits, zero_bits}
@@ -18,17 +19,17 @@ module _ (f e s : ℕ) (hf : f < 2 ^ 23) (he : e < 254) (hs : s < 2) where
   abbrev bits : ℕ
   bits = s * 2 ^ 31 + suc e * 2 ^ 23 + f
 
-  negative : (b : Bool) → eqb s 1 ≡ b → leb (2 ^ 31) bits ≡ b
-  negative true h = le-leb (2 ^ 31) bits (omega (arith, eqb-true s 1 h))
-  negative false h = lt-leb (2 ^ 31) bits (omega (arith, eqb-false s 1 h))
+  negative : leb (2 ^ 31) bits ≡ eqb s 1
+  negative = grind (arith, nat_tests)
 
   value : HasValue (of_bits binary32 bits) (eqb s 1) ((2 ^ 23 + f) * 2 ^ e) (2 ^ 149)
   unfolding of_bits of_fields
   value =
-      rw (negative (eqb s 1) refl, bits_power f (suc e) s hf (omega arith) hs, bits_digits f (suc e) s hf (omega arith) hs, ne_eqb (suc e) 255 (omega arith))
+      rw (negative, bits_power f (suc e) s hf (omega arith) hs, bits_digits f (suc e) s hf (omega arith) hs, ne_eqb (suc e) 255 (omega arith))
       (odd_sign 24 (eqb s 1) (2 ^ 23 + f) e 149)
 
--- a float24 with e from 1 on is (1 + f / 2 ^ 16) * 2 ^ (e - 63), and so is its f32; above and below the line both stand multiplied by 2 ^ 70
+-- a float24 with e from 1 on is (1 + f / 2 ^ 16) * 2 ^ (e - 63), and so is its f32; above and below the line
+-- both stand multiplied by 2 ^ 70
 pub exact : (w : ℕ) → 1 ≤ exponent w
     → HasValue (f32_of w) (eqb (sign w) 1) ((2 ^ 16 + fraction w) * 2 ^ exponent w * 2 ^ 70) (2 ^ (16 + 63) * 2 ^ 70)
 exact w h =

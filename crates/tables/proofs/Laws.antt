@@ -1,27 +1,24 @@
 -- Laws of names, of a float24's f32 and of constants. Assumes nothing.
 use mathlib.Core.Path.{◌≡◌, refl}
-use mathlib.Core.Bool.{Bool, true, false, not, ◌&&◌, ◌||◌, cond, true≢false}
+use mathlib.Core.Bool.{Bool, true, false, not, ◌&&◌}
 use mathlib.Core.List.{List, [], ◌∷◌, map}
 use mathlib.Core.Logic.{◌≢◌}
 use Prim.Native.Nat.{ℕ, zero, suc, ◌+◌, ◌*◌, ◌/◌, ◌%◌, ◌^◌, ◌<◌, ◌≤◌}
-use native.Mathlib.Numerals.{add-one}
 use native.Mathlib.Omega.{arith}
-use lib.Dec.{T, eqb, leb, ltb, leb-suc-zero, leb-suc-suc}
+use lib.Dec.{T, eqb, leb, ltb}
 use lib.Ieee.{binary32, of_bits, to_bits, nan_bits}
 use lib.Ieee.Bits.{to_bits-of_bits, nan_bits_is}
-use lib.Pow.{low, high}
 use lib.ListN.{length, get_or}
-use borrow.Author.Tests.{lt-ltb, le-ltb, eq-eqb, ne_eqb, eqb-true, eqb-false}
-use Rattle.std.specs.Prelude.{Some, None}
+use borrow.Author.Tests.{ne_eqb, eqb-true, eqb-false}
+use Rattle.std.specs.Prelude.{Some}
 use Rattle.std.specs.Bool.{then_some}
+use Rattle.std.proofs.lemmas.Bool.Decides.{nat_tests}
 use Rattle.binary.specs.Bytes.{u8_at, u32_at}
-use Rattle.bits.specs.Fields.{fields_from, pack, fit}
-use Rattle.bits.proofs.Laws.{fields_pack}
-use Rattle.tables.specs.Constants.{entry_of, flag_of, bytes_of, f32_of, vector_of, convert_of, floats_of}
+use Rattle.bits.specs.Fields.{fields_from}
+use Rattle.tables.specs.Constants.{entry_of, flag_of, bytes_of, f32_of, convert_of, floats_of}
 use Rattle.tables.specs.Entries.{label_address, label_name, good_label, uniform_name, uniform_start, uniform_end, in_one_kind, good_uniform}
 use Rattle.tables.specs.Float24.{fraction, exponent, sign, top_byte, f32_bits}
 use Rattle.tables.specs.Names.{meets0, good_name, names_end}
-use Rattle.tables.specs.declared.constants.Constant.{Constant}
 use Rattle.tables.specs.declared.constants.Constant.TheVariants.{Flag, Bytes, Vector}
 use Rattle.tables.specs.declared.constants.ConstantEntry.{ConstantEntry}
 use Rattle.tables.specs.declared.constants.FloatVector.{FloatVector}
@@ -30,30 +27,14 @@ use Rattle.tables.specs.declared.constants.FloatVector.{FloatVector}
 no_names : (s : List ℕ) → meets0 s ≡ false → names_end s ≡ 0
 unfolding meets0 names_end
 no_names [] e = refl
-no_names (b ∷ s) e = by (eqb b 0) (meets0 s) _ _ e
-  where
-    by : (z m : Bool) (here after : ℕ) → (z || m) ≡ false → cond m after (cond z here 0) ≡ 0
-    by true m here after q = absurd (true≢false q)
-    by false true here after q = absurd (true≢false q)
-    by false false here after q = refl
+no_names (b ∷ s) e = grind (arith, nat_tests)
 
 -- a name is good exactly if it starts before the place where names end
 pub good_names : (symbols : List ℕ) (at : ℕ) → ltb at (names_end symbols) ≡ good_name symbols at
 unfolding meets0 names_end good_name
-good_names [] at = rw (leb-suc-zero at)
-good_names (b ∷ s) zero = rw (lt-ltb 0 (suc (length s)) (omega arith)) (by (meets0 s) (eqb b 0))
-  where
-    by : (m z : Bool) → ltb 0 (cond m (names_end s + 1) (cond z 1 0)) ≡ (z || m)
-    by true true = lt-ltb 0 (names_end s + 1) (omega arith)
-    by true false = lt-ltb 0 (names_end s + 1) (omega arith)
-    by false true = refl
-    by false false = refl
-good_names (b ∷ s) (suc at) = rw (leb-suc-suc (suc at) (length s), ← good_names s at) (by (meets0 s) (eqb b 0) refl)
-  where
-    by : (m z : Bool) → meets0 s ≡ m → ltb (suc at) (cond m (names_end s + 1) (cond z 1 0)) ≡ ltb at (names_end s)
-    by true z e = rw (add-one (names_end s), leb-suc-suc (suc at) (names_end s))
-    by false true e = rw (no_names s e, le-ltb (suc at) 1 (omega arith), le-ltb at 0 (omega arith))
-    by false false e = rw (no_names s e, le-ltb (suc at) 0 (omega arith), le-ltb at 0 (omega arith))
+good_names [] at = grind (arith, nat_tests)
+good_names (b ∷ s) zero = grind (arith, nat_tests)
+good_names (b ∷ s) (suc at) = let same = good_names s at in let none = no_names s in grind (arith, nat_tests)
 
 -- so a label's and a uniform's name is tested as document 01 says
 module _ (s symbols : List ℕ) where
@@ -69,7 +50,7 @@ module _ (s symbols : List ℕ) where
 none_met : (s : List ℕ) → ((k : ℕ) → k < length s → get_or s k 0 ≢ 0) → meets0 s ≡ false
 unfolding meets0
 none_met [] h = refl
-none_met (b ∷ s) h = rw (ne_eqb b 0 (h 0 (omega arith)), none_met s (λ k l. h (suc k) (omega arith)))
+none_met (b ∷ s) h = let here = h 0 (omega arith) in let rest = none_met s (λ k l. h (suc k) (omega arith)) in grind (arith, nat_tests)
 
 pub no_zero : (s : List ℕ) → ((k : ℕ) → k < length s → get_or s k 0 ≢ 0) → names_end s ≡ 0
 no_zero s h = no_names s (none_met s h)
@@ -77,12 +58,11 @@ no_zero s h = no_names s (none_met s h)
 pub last_zero : (s : List ℕ) (i : ℕ) → i < length s → get_or s i 0 ≡ 0 → ((k : ℕ) → i < k → k < length s → get_or s k 0 ≢ 0) → names_end s ≡ i + 1
 unfolding names_end
 last_zero [] i l e h = absurd (omega arith)
-last_zero (b ∷ s) zero l e h = rw (none_met s (λ k m. h (suc k) (omega arith) (omega arith)), eq-eqb b 0 e)
-last_zero (b ∷ s) (suc i) l e h = by (meets0 s) refl (last_zero s i (omega arith) e (λ k m n. h (suc k) (omega arith) (omega arith)))
-  where
-    by : (m : Bool) → meets0 s ≡ m → names_end s ≡ i + 1 → cond m (names_end s + 1) (cond (eqb b 0) 1 0) ≡ suc i + 1
-    by true q r = omega arith
-    by false q r = absurd (omega (arith, no_names s q))
+last_zero (b ∷ s) zero l e h = let none = none_met s (λ k m. h (suc k) (omega arith) (omega arith)) in grind (arith, nat_tests)
+last_zero (b ∷ s) (suc i) l e h =
+    let later = last_zero s i (omega arith) e (λ k m n. h (suc k) (omega arith) (omega arith)) in
+    let none = no_names s in
+    grind (arith, nat_tests)
 
 -- a float24 word has these fields, from bit 0 up, and no bit besides
 pub float24_fields : (w : ℕ) → fields_from 0 (16 ∷ 7 ∷ 1 ∷ 8 ∷ []) w ≡ fraction w ∷ exponent w ∷ sign w ∷ top_byte w ∷ []
@@ -97,20 +77,13 @@ module _ (f e s : ℕ) (hf : f < 2 ^ 23) (he : e < 2 ^ 8) (hs : s < 2 ^ 1) where
   bits = s * 2 ^ 31 + e * 2 ^ 23 + f
 
   bits_fields : fields_from 0 f32_layout bits ≡ f ∷ e ∷ s ∷ []
-  bits_fields =
-      let packed : bits ≡ pack f32_layout (f ∷ e ∷ s ∷ []) = omega arith in
-      let fits : T (fit f32_layout (f ∷ e ∷ s ∷ [])) = rw (lt-ltb f (2 ^ 23) hf, lt-ltb e (2 ^ 8) he, lt-ltb s (2 ^ 1) hs) tt in
-      rw packed (fields_pack f32_layout (f ∷ e ∷ s ∷ []) fits)
+  bits_fields = grind arith
 
   pub bits_digits : bits % 2 ^ 23 ≡ f
-  bits_digits =
-      let above : bits ≡ (s * 2 ^ 8 + e) * 2 ^ 23 + f = omega arith in
-      rw above (low (s * 2 ^ 8 + e) 23 hf)
+  bits_digits = omega arith
 
   pub bits_power : bits % 2 ^ 31 / 2 ^ 23 ≡ e
-  bits_power =
-      let above : bits ≡ s * 2 ^ 31 + (e * 2 ^ 23 + f) = omega arith in
-      rw (above, low s 31 {lo = e * 2 ^ 23 + f} (omega arith)) (high e 23 hf)
+  bits_power = omega arith
 
   -- with an exponent below 255 they are no NaN's, and the f32 keeps them
   bits_no_nan : e < 255 → T (not (nan_bits binary32 bits))
@@ -124,11 +97,11 @@ module _ (f e s : ℕ) (hf : f < 2 ^ 23) (he : e < 2 ^ 8) (hs : s < 2 ^ 1) where
 module _ (w : ℕ) where
   pub normal_bits : 1 ≤ exponent w → f32_bits w ≡ sign w * 2 ^ 31 + (exponent w + 64) * 2 ^ 23 + fraction w * 128
   unfolding f32_bits
-  normal_bits h = rw (ne_eqb (exponent w) 0 (omega arith))
+  normal_bits h = grind (arith, nat_tests)
 
   pub zero_bits : exponent w ≡ 0 → f32_bits w ≡ sign w * 2 ^ 31 + 0 * 2 ^ 23 + 0
   unfolding f32_bits
-  zero_bits h = rw (eq-eqb (exponent w) 0 h) (omega arith)
+  zero_bits h = grind (arith, nat_tests)
 
   -- its fields are those that document 01 gives it
   pub normal_fields : 1 ≤ exponent w → fields_from 0 f32_layout (f32_bits w) ≡ (fraction w * 128) ∷ (exponent w + 64) ∷ sign w ∷ []
@@ -156,12 +129,7 @@ module _ (w : ℕ) where
 -- the bytes of a word of the file, lowest first
 pub word_bytes : (s : List ℕ) (at : ℕ) → ((k : ℕ) → u8_at s k < 256)
     → fields_from 0 (8 ∷ 8 ∷ 8 ∷ 8 ∷ []) (u32_at s at) ≡ u8_at s at ∷ u8_at s (at + 1) ∷ u8_at s (at + 2) ∷ u8_at s (at + 2 + 1) ∷ []
-word_bytes s at h =
-    let bytes = u8_at s at ∷ u8_at s (at + 1) ∷ u8_at s (at + 2) ∷ u8_at s (at + 2 + 1) ∷ [] in
-    let packed : u32_at s at ≡ pack (8 ∷ 8 ∷ 8 ∷ 8 ∷ []) bytes = omega arith in
-    let fits : T (fit (8 ∷ 8 ∷ 8 ∷ 8 ∷ []) bytes) =
-    rw (lt-ltb (u8_at s at) 256 (h at), lt-ltb (u8_at s (at + 1)) 256 (h (at + 1)), lt-ltb (u8_at s (at + 2)) 256 (h (at + 2)), lt-ltb (u8_at s (at + 2 + 1)) 256 (h (at + 2 + 1))) tt in
-    rw packed (fields_pack (8 ∷ 8 ∷ 8 ∷ 8 ∷ []) bytes fits)
+word_bytes s at h = let a = h at in let b = h (at + 1) in let c = h (at + 2) in let d = h (at + 2 + 1) in grind arith
 
 -- a bool's value and an integer's bytes x y z w are the bytes of the file at 4 to 7
 module _ (s : List ℕ) (bytes : (k : ℕ) → u8_at s k < 256) where
@@ -172,22 +140,9 @@ module _ (s : List ℕ) (bytes : (k : ℕ) → u8_at s k < 256) where
   integer_bytes = let e = word_bytes s 4 bytes in cc
 
 -- the components of a vector have the bits of their words
-apart : {A : Type 0} → ◌≡◌ {A = ℕ} 0 1 → A
-apart z = absurd (omega arith)
-
-the_constant : (good : Bool) {c d : Constant} → then_some good c ≡ Some d → c ≡ d
-the_constant true r = cc
-the_constant false r = apart (cc)
-
 pub vector_floats : (e : ConstantEntry) (v : FloatVector) → convert_of e ≡ Some (Vector v) → floats_of e ≡ v
 unfolding convert_of
-vector_floats e v q = let same : Vector (floats_of e) ≡ Vector v = by (eqb e.kind 0) (eqb e.kind 1) (eqb e.kind 2) q in cc
-  where
-    by : (a b c : Bool) → cond a (flag_of e) (cond b (bytes_of e) (cond c (vector_of e) None)) ≡ Some (Vector v) → Vector (floats_of e) ≡ Vector v
-    by true b c r = let f = the_constant _ r in apart (cc)
-    by false true c r = let f = the_constant _ r in apart (cc)
-    by false false true r = the_constant _ r
-    by false false false r = apart (cc)
+vector_floats e v q = grind (arith, nat_tests)
 
 pub vector_bits : (e : ConstantEntry) (v : FloatVector) → convert_of e ≡ Some (Vector v)
     → map (to_bits binary32) (v.x ∷ v.y ∷ v.z ∷ v.w ∷ []) ≡ map f32_bits (e.x ∷ e.y ∷ e.z ∷ e.w ∷ [])

@@ -42,7 +42,8 @@ ends : map names_end (symbols ∷ [] ∷ (0x61 ∷ []) ∷ (0x00 ∷ []) ∷ [])
 unfolding names_end meets0 symbols
 ends = refl
 
--- labels in a program of 5 words, names ending at 3: the last address and name that are good, the first that are not
+-- labels in a program of 5 words, names ending at 3: the last address and name that are good, the first that
+-- are not
 abbrev label : ℕ → ℕ → List ℕ
 label address name = 1 ∷ 0 ∷ 1 ∷ 0 ∷ address ∷ 0 ∷ 0 ∷ 0 ∷ 0xff ∷ 0xff ∷ 0xff ∷ 0xff ∷ name ∷ 0 ∷ 0 ∷ 0 ∷ []
 
@@ -74,7 +75,8 @@ outputs_high : map (λ e. output_fault e 2)
 unfolding good_output output_fault
 outputs_high = refl
 
--- uniforms, names ending at 3: each range whole; from each range into the next; the gap and what follows the last; end before start; the name
+-- uniforms, names ending at 3: each range whole; from each range into the next; the gap and what follows the
+-- last; end before start; the name
 abbrev uniform : ℕ → ℕ → ℕ → List ℕ
 uniform name start end = name ∷ 0 ∷ 0 ∷ 0 ∷ start ∷ 0 ∷ end ∷ 0 ∷ []
 
@@ -92,7 +94,8 @@ uniforms_high : map (λ e. uniform_fault e 3 0)
 unfolding good_uniform in_one_kind uniform_fault
 uniforms_high = refl
 
--- constants: the last ID and value of each kind that are good, the first that are not; a vector with a bad word; kind 3
+-- constants: the last ID and value of each kind that are good, the first that are not; a vector with a bad
+-- word; kind 3
 abbrev constant : ℕ → ℕ → List ℕ → List ℕ
 constant kind id rest = kind ∷ 0 ∷ id ∷ 0 ∷ rest
 

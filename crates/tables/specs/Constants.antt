@@ -1,4 +1,5 @@
--- Constants (document 01, 'Layout of a library'; the offsets are those of documents 000 and 001), and refusal 18.
+-- Constants (document 01, 'Layout of a library'; the offsets are those of documents 000 and 001), and refusal
+-- 18.
 -- An entry is the list of the file's bytes from its start on.
 -- Assumes nothing.
 use Rattle.std.specs.Prelude.{ℕ, Bool, ◌&&◌, cond, List, eqb, leb, is_none, Float, Option, None}

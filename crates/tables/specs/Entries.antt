@@ -1,11 +1,13 @@
--- Entries of the label, output and uniform tables (document 01, 'Layout of a library'; the offsets are those of documents 000 and 001), and refusals 19, 20 and 21.
+-- Entries of the label, output and uniform tables (document 01, 'Layout of a library'; the offsets are those
+-- of documents 000 and 001), and refusals 19, 20 and 21.
 -- An entry is the list of the file's bytes from its start on.
 -- Assumes nothing.
 use Rattle.std.specs.Prelude.{ℕ, Bool, not, ◌&&◌, ◌||◌, List, eqb, leb, ltb}
 use Rattle.answer.specs.Faults.{Fault, fault_if}
 use Rattle.binary.specs.Bytes.{u16_at, u32_at}
 
--- 'Labels: address at most the word count'. A name is good exactly if it starts before `names_end` of the symbol table (`good_names` of proofs/Laws.antt)
+-- 'Labels: address at most the word count'. A name is good exactly if it starts before `names_end` of the
+-- symbol table (`good_names` of proofs/Laws.antt)
 abbrev pub label_address : List ℕ → ℕ
 label_address s = u32_at s 0x04
 

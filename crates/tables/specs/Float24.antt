@@ -1,4 +1,5 @@
--- Float24: '1 sign, 7 exponent e and 16 fraction bits f, bias 63' (document 01, 'Layout of a library', Constants).
+-- Float24: '1 sign, 7 exponent e and 16 fraction bits f, bias 63' (document 01, 'Layout of a library',
+-- Constants).
 -- Assumes nothing.
 use Rattle.std.specs.Prelude.{ℕ, ◌+◌, ◌*◌, ◌^◌, Bool, ◌&&◌, ◌||◌, cond, eqb, leb}
 use Rattle.bits.specs.Fields.{field}
@@ -16,7 +17,8 @@ sign w = field 23 1 w
 abbrev pub top_byte : ℕ → ℕ
 top_byte w = field 24 8 w
 
--- 'Its top byte in the file is 0'; 'For e from 1 to 126'; 'e=0 with f=0 is a zero'; 'Other e=0 words and e=127 are refused'
+-- 'Its top byte in the file is 0'; 'For e from 1 to 126'; 'e=0 with f=0 is a zero'; 'Other e=0 words and
+-- e=127 are refused'
 unfoldable pub good_float24 : ℕ → Bool
 good_float24 w = eqb (top_byte w) 0 && (leb 1 (exponent w) && leb (exponent w) 126 || eqb (exponent w) 0 && eqb (fraction w) 0)
 

@@ -1,4 +1,5 @@
--- Names: 'Uniform and label names start inside the symbol table and meet a 00 byte inside it' (document 01, 'Layout of a library').
+-- Names: 'Uniform and label names start inside the symbol table and meet a 00 byte inside it' (document 01,
+-- 'Layout of a library').
 -- Assumes nothing.
 use Rattle.std.specs.Prelude.{ℕ, ◌+◌, Bool, false, ◌&&◌, ◌||◌, cond, List, [], ◌∷◌, eqb, ltb, length, drop}
 

@@ -10,7 +10,8 @@ use answer::{Reason, Refusal};
 use binary::{ByteOffset, u8_at, u32_at};
 use bits::field;
 
-// An entry as the file has it: x, y, z, w are the words at 4, 8, 0Ch and 10h. A bool is the lowest byte of x; an integer's bytes are all four of x, lowest first.
+// An entry as the file has it: x, y, z, w are the words at 4, 8, 0Ch and 10h. A bool is the lowest byte of x;
+// an integer's bytes are all four of x, lowest first.
 #[derive(Clone, Copy)]
 pub struct ConstantEntry {
     pub kind: u8,
@@ -68,7 +69,8 @@ fn byte_of(word: u32, pos: u32) -> u8
     field(word, pos, 8) as u8
 }
 
-// Whether an entry is a good bool, a good integer, a good vector. Told without a conversion, since the check tests every entry and converts none.
+// Whether an entry is a good bool, a good integer, a good vector. Told without a conversion, since the check
+// tests every entry and converts none.
 fn is_flag(e: ConstantEntry) -> bool
     ensures { result ≡ is_some (flag_of e) }
 {
@@ -81,23 +83,12 @@ fn is_bytes(e: ConstantEntry) -> bool
     e.id <= 3
 }
 
-// One word after another: joined by `&` all four are loaded as one vector, and that load waits for the four stores before it.
+// One word after another: joined by `&` all four are loaded as one vector, and that load waits for the four
+// stores before it.
 fn is_vector(e: ConstantEntry) -> bool
     ensures { result ≡ is_some (vector_of e) }
 {
-    if 95 < e.id {
-        return false;
-    }
-    if !is_float24(e.x) {
-        return false;
-    }
-    if !is_float24(e.y) {
-        return false;
-    }
-    if !is_float24(e.z) {
-        return false;
-    }
-    is_float24(e.w)
+    e.id <= 95 && is_float24(e.x) && is_float24(e.y) && is_float24(e.z) && is_float24(e.w)
 }
 
 fn flag_of(e: ConstantEntry) -> Option<Constant>

@@ -14,7 +14,8 @@ pub(crate) fn refuse_unless(good: bool, reason: Reason, place: u32) -> Result<()
     if good { Ok(()) } else { Err(reason.at(place)) }
 }
 
-// The fault of a label, in a program of `words` words. `names_end` is what the function of that name answers for the symbol table.
+// The fault of a label, in a program of `words` words. `names_end` is what the function of that name answers
+// for the symbol table.
 #[tactic(auto, unfolding(crate::specs::Entries::label_fault, crate::specs::Entries::good_label))]
 pub fn label_fault(entry: &[u8], words: u32, names_end: u64, place: u32) -> Result<(), Refusal>
     ensures { faulted result ≡ label_fault entry.now words names_end place }

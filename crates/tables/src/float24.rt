@@ -6,7 +6,8 @@ ghost use Rattle.tables.specs.Float24.{good_float24, f32_bits};
 
 use bits::field;
 
-// Whether a word of the file is a good float24: its top byte is 0, and with exponent 0 it is a zero. Exponent 127 is refused.
+// Whether a word of the file is a good float24: its top byte is 0, and with exponent 0 it is a zero. Exponent
+// 127 is refused.
 #[tactic(auto, unfolding(crate::specs::Float24::good_float24))]
 pub(crate) fn is_float24(word: u32) -> bool
     ensures { result ≡ good_float24 word }
@@ -32,7 +33,8 @@ fn f32_bits(word: u32) -> u32
     }
 }
 
-// The f32 of a good float24. Any other word is converted by the same rule, which never gives a NaN, so that this asks for nothing.
+// The f32 of a good float24. Any other word is converted by the same rule, which never gives a NaN, so that
+// this asks for nothing.
 #[tactic(auto, using(crate::proofs::Laws::no_nan))]
 pub(crate) fn f32_of(word: u32) -> f32
     ensures { result ≡ of_bits binary32 (f32_bits word) }

@@ -42,7 +42,7 @@ fn report_with(e: Executable, measured: Measured) -> Report
 }
 
 // 13 to 28 of the executables from `first` up to `end`, in their order, and the reports of these: one executable alone is a range of one.
-// Good entries, names and the flow are taken over from the executable before, where it has the same. Reports are answered where these have no fault; of the others that says nothing.
+// Good entries, names and the flow are taken over from the executable before, where it has the same. Reports are answered exactly where these have no fault; of the executables before and after them nothing is said.
 pub(crate) fn judge_executables(
     file: &[u8],
     library: Library,

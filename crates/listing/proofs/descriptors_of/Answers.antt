@@ -1,4 +1,4 @@
--- `descriptors_of` meets its contract. Before each turn the descriptors below index are there. Assumes nothing.
+-- `descriptors_of` meets its contract. Before each turn those below index are there. Assumes nothing.
 use Rattle.std.proofs.Common.{◌≡◌, length, arith, rules}
 use Rattle.listing.proofs.Answers.{descriptors_are}
 use Rattle.listing.proofs.descriptors_of.Goals as goal

@@ -1,4 +1,4 @@
--- `descriptors_of` meets its contract. Before each turn the descriptors below index are there. Assumes nothing.
+-- `descriptors_of` meets its contract. Before each turn those below index are there. Assumes nothing.
 use Rattle.std.proofs.Common.{◌≡◌, ℕ, ◌*◌, ◌<◌, get_or}
 use Rattle.binary.specs.Bytes.{u32_at}
 use Rattle.listing.proofs.descriptors_of.Given as goal

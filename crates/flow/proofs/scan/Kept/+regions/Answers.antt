@@ -38,9 +38,8 @@ descend-remember-requires t c =
 
 pub descend-returns : goal.descend-returns
 descend-returns t c =
-    let C = code_of c.args.scan.words.now 0 in
     let f = rw c.in_ok-found.was at c.scan_part.ensures in
-    rw c.remember.ensures (remembered_scans C c.args.scan.allowed c.args.part c.args.total c.args.p c.args.self.now.marks c.requires.0 c.requires.1 f c.requires.2 (omega (arith, c.requires.0.weighs.0, heavy c.args.part.opens.loops)) refl refl c.beyond_of.ensures refl refl)
+    rw c.remember.ensures (remembered_scans c.requires.0 c.args.total c.args.p c.requires.1 f c.requires.2 (omega (arith, c.requires.0.weighs.0, heavy c.args.part.opens.loops)) refl refl c.beyond_of.ensures refl refl)
 
 pub descend_both-fits_here-requires : goal.descend_both-fits_here-requires
 descend_both-fits_here-requires t c =
@@ -60,7 +59,6 @@ descend_both-returns-then-fits_here t c =
 
 pub descend_both-overflow_sub-visits : goal.descend_both-overflow_sub-visits
 descend_both-overflow_sub-visits t c =
-    let C = code_of c.args.scan.words.now 0 in
     let f = rw c.in_ok-first.was at c.scan_part.ensures in
     let f' = rw (c.after_part.ensures, c.in_ok-second.was) at c.scan_part-2.ensures in
     omega (arith, (f.left _ refl).adds, (f'.left _ refl).adds)
@@ -71,32 +69,28 @@ descend_both-nonzero_div-visits t c =
 
 pub descend_both-beyond_of-requires : goal.descend_both-beyond_of-requires
 descend_both-beyond_of-requires t c =
-    let C = code_of c.args.scan.words.now 0 in
     let f = rw c.in_ok-first.was at c.scan_part.ensures in
     let f' = rw (c.after_part.ensures, c.in_ok-second.was) at c.scan_part-2.ensures in
-    (left_both C c.args.scan.allowed c.args.yes c.args.next c.args.total c.args.p c.args.self.now.marks c.requires.0 c.requires.2 f refl f' refl c.deepest_of-deep.ensures).over
+    (left_both c.requires.0 c.args.total c.args.p c.requires.2 f refl f' refl c.deepest_of-deep.ensures).over
 
 pub descend_both-remember-requires : goal.descend_both-remember-requires
 descend_both-remember-requires t c =
-    let C = code_of c.args.scan.words.now 0 in
     let f = rw c.in_ok-first.was at c.scan_part.ensures in
     let f' = rw (c.after_part.ensures, c.in_ok-second.was) at c.scan_part-2.ensures in
-    let s = few_beyond c.args.scan.allowed _ c.args.yes.opens c.beyond_of.ensures c.requires.0.small (left_both C c.args.scan.allowed c.args.yes c.args.next c.args.total c.args.p c.args.self.now.marks c.requires.0 c.requires.2 f refl f' refl c.deepest_of-deep.ensures).under in
+    let s = few_beyond c.args.scan.allowed _ c.args.yes.opens c.beyond_of.ensures c.requires.0.small (left_both c.requires.0 c.args.total c.args.p c.requires.2 f refl f' refl c.deepest_of-deep.ensures).under in
     (c.requires.3, s.0, s.1, s.2)
 
 pub descend_both-returns-then-not-yes : goal.descend_both-returns-then-not-yes
 descend_both-returns-then-not-yes t c =
-    let C = code_of c.args.scan.words.now 0 in
     let f = rw c.in_ok-first.was at c.scan_part.ensures in
     let f' = rw (c.after_part.ensures, c.in_ok-second.was) at c.scan_part-2.ensures in
-    rw c.remember.ensures (both_remembered C c.args.scan.allowed c.args.yes c.args.next c.args.total c.args.p c.args.self.now.marks c.requires.0 c.requires.2 f refl f' refl c.deepest_of-deep.ensures refl refl (not_true _ c.if-not-yes.true) c.requires.3 (omega (arith, c.requires.0.weighs.0, heavy c.args.yes.opens.loops)) refl c.beyond_of.ensures refl refl)
+    rw c.remember.ensures (both_remembered c.requires.0 c.args.total c.args.p c.requires.2 f refl f' refl c.deepest_of-deep.ensures refl refl (not_true _ c.if-not-yes.true) c.requires.3 (omega (arith, c.requires.0.weighs.0, heavy c.args.yes.opens.loops)) refl c.beyond_of.ensures refl refl)
 
 pub descend_both-returns-else-not-yes : goal.descend_both-returns-else-not-yes
 descend_both-returns-else-not-yes t c =
-    let C = code_of c.args.scan.words.now 0 in
     let f = rw c.in_ok-first.was at c.scan_part.ensures in
     let f' = rw (c.after_part.ensures, c.in_ok-second.was) at c.scan_part-2.ensures in
-    both_passed C c.args.scan.allowed c.args.yes c.args.next c.args.total c.args.p c.args.self.now.marks c.requires.0 c.requires.2 f refl f' refl c.deepest_of-deep.ensures refl refl
+    both_passed c.requires.0 c.args.total c.args.p c.requires.2 f refl f' refl c.deepest_of-deep.ensures refl refl
 
 pub enter-fits_here-requires : goal.enter-fits_here-requires
 enter-fits_here-requires t c =
@@ -113,7 +107,7 @@ enter-returns-then-fits_here t c =
     let C = code_of c.args.scan.words.now 0 in
     let e = c.recall-cost.ensures in
     let g = fits_known C (rules_of c.args.scan.allowed) c.args.part c.args.total _ _ c.args.self.now.marks (sym c.fits_here.ensures ∙ c.if-fits_here.true) in
-    recalled_scans C c.args.scan.allowed c.args.part c.args.total c.args.p c.args.self.now.marks c.requires.0 c.requires.1 (rw e at g) (rw e at c.passed_over.ensures)
+    recalled_scans c.requires.0 c.args.total c.args.p c.requires.1 (rw e at g) (rw e at c.passed_over.ensures)
 
 pub enter_both-fits_here-requires : goal.enter_both-fits_here-requires
 enter_both-fits_here-requires t c =
@@ -130,19 +124,16 @@ enter_both-returns-then-fits_here t c =
     let C = code_of c.args.scan.words.now 0 in
     let e = c.recall-cost.ensures in
     let g = fits_known C (rules_of c.args.scan.allowed) c.args.yes c.args.total _ _ c.args.self.now.marks (sym c.fits_here.ensures ∙ c.if-fits_here.true) in
-    recalled_both_scans C c.args.scan.allowed c.args.yes c.args.next c.args.total c.args.p c.args.self.now.marks c.requires.0 c.requires.2 (not_true _ c.if-not-yes.true) (rw e at g) (rw e at c.passed_over.ensures)
+    recalled_both_scans c.requires.0 c.args.total c.args.p c.requires.2 (not_true _ c.if-not-yes.true) (rw e at g) (rw e at c.passed_over.ensures)
 
 pub scan_part-returns-then-scan-sum : goal.scan_part-returns-then-scan-sum
 scan_part-returns-then-scan-sum t c =
-    let q = c.loop-p in
-    let C = code_of c.args.scan.words.now 0 in
-    standing_27 C c.args.scan.allowed c.args.part c.args.total c.args.self.now.marks c.requires.within c.requires.few q.invariant c.loop-p-test.true c.if-scan-sum.true c.at.ensures
+    standing_27 c.loop-p.invariant c.requires.within c.requires.few c.loop-p-test.true c.if-scan-sum.true c.at.ensures
 
 pub scan_part-loop-p-preserved-then-goes_on : goal.scan_part-loop-p-preserved-then-goes_on
 scan_part-loop-p-preserved-then-goes_on t c =
     let q = c.loop-p in
-    let C = code_of c.args.scan.words.now 0 in
-    standing_known C c.args.scan.allowed c.args.part c.args.total c.args.self.now.marks c.requires.within c.requires.few q.invariant c.loop-p-test.true c.if-scan-sum.false (omega arith) (ap (λ y. goes_on y (get_or q.self.costs q.p 0) c.args.part.to.0) (sym c.control_of.ensures) ∙ sym c.goes_on.ensures ∙ c.if-goes_on.true)
+    standing_known q.invariant c.requires.within c.requires.few c.loop-p-test.true c.if-scan-sum.false (omega arith) (ap (λ y. goes_on y (get_or q.self.costs q.p 0) c.args.part.to.0) (sym c.control_of.ensures) ∙ sym c.goes_on.ensures ∙ c.if-goes_on.true)
 
 pub scan_part-look_at-requires : goal.scan_part-look_at-requires
 scan_part-look_at-requires t c =
@@ -150,18 +141,14 @@ scan_part-look_at-requires t c =
 
 pub scan_part-returns-in_err-look_at : goal.scan_part-returns-in_err-look_at
 scan_part-returns-in_err-look_at t c =
-    let q = c.loop-p in
-    let C = code_of c.args.scan.words.now 0 in
     let e = rw c.in_err-look_at.was at c.look_at.ensures in
-    let y = standing_refuse C c.args.scan.allowed c.args.part c.args.total c.args.self.now.marks c.requires.within c.requires.few q.invariant c.loop-p-test.true c.if-scan-sum.false e in
+    let y = standing_refuse c.loop-p.invariant c.requires.within c.requires.few c.loop-p-test.true c.if-scan-sum.false e in
     search (rules, y)
 
 pub scan_part-loop-p-preserved-in-Next : goal.scan_part-loop-p-preserved-in-Next
 scan_part-loop-p-preserved-in-Next t c =
-    let q = c.loop-p in
-    let C = code_of c.args.scan.words.now 0 in
     let e = rw (c.in_ok-look_at.was, c.in-Next.is) at c.look_at.ensures in
-    standing_next C c.args.scan.allowed c.args.part c.args.total c.args.self.now.marks c.requires.within c.requires.few q.invariant c.loop-p-test.true c.if-scan-sum.false (omega arith) e
+    standing_next c.loop-p.invariant c.requires.within c.requires.few c.loop-p-test.true c.if-scan-sum.false (omega arith) e
 
 pub scan_part-enter-requires : goal.scan_part-enter-requires
 scan_part-enter-requires t c =
@@ -169,23 +156,20 @@ scan_part-enter-requires t c =
     let C = code_of c.args.scan.words.now 0 in
     let e = rw (c.in_ok-look_at.was, c.in-One.is) at c.look_at.ensures in
     let f = fits_at C (rules_of c.args.scan.allowed) c.args.part.opens c.args.part.weight q.p c.args.part.to.0 c.loop-p-test.true c.requires.within c.requires.under e in
-    (omega (arith, f.0.smaller, later C (rules_of c.args.scan.allowed) c.args.part.opens c.args.part.from.0 q.p c.args.part.to.0 q.invariant.from), (ready_part C c.args.scan.allowed c.args.part c.args.total c.args.self.now.marks c.requires.within c.requires.few q.invariant c.loop-p-test.true c.if-scan-sum.false _ f.0.within (weighs_at C c.args.scan.allowed c.args.part.opens c.args.part.weight q.p c.args.part.to.0 c.requires.weighs e) f.0.under c.requires.small, asks_one C (rules_of c.args.scan.allowed) c.args.part.opens c.args.part.weight q.p c.args.part.to.0 e, omega (arith, c.loop-p-test.true, c.requires.within, c.requires.few)))
+    (omega (arith, f.0.smaller, later C (rules_of c.args.scan.allowed) c.args.part.opens c.args.part.from.0 q.p c.args.part.to.0 q.invariant.from), (ready_part q.invariant c.requires.within c.requires.few c.loop-p-test.true c.if-scan-sum.false _ f.0.within (weighs_at C c.args.scan.allowed c.args.part.opens c.args.part.weight q.p c.args.part.to.0 c.requires.weighs e) f.0.under c.requires.small, asks_one C (rules_of c.args.scan.allowed) c.args.part.opens c.args.part.weight q.p c.args.part.to.0 e, omega (arith, c.loop-p-test.true, c.requires.within, c.requires.few)))
 
 pub scan_part-returns-in_err-found-in-One : goal.scan_part-returns-in_err-found-in-One
 scan_part-returns-in_err-found-in-One t c =
-    let q = c.loop-p in
-    let C = code_of c.args.scan.words.now 0 in
     let e = rw (c.in_ok-look_at.was, c.in-One.is) at c.look_at.ensures in
-    let y = one_stopped C c.args.scan.allowed c.args.part c.args.total c.args.self.now.marks c.requires.within c.requires.few q.invariant c.loop-p-test.true c.if-scan-sum.false e c.enter.ensures (c.in_err-found-in-One.was) in
+    let y = one_stopped c.loop-p.invariant c.requires.within c.requires.few c.loop-p-test.true c.if-scan-sum.false e c.enter.ensures (c.in_err-found-in-One.was) in
     let z : c.from_residual-in_err-found-in-One.result ≡ c.enter.result = search rules in
     rw z y
 
 pub scan_part-loop-p-smaller-in-One : goal.scan_part-loop-p-smaller-in-One
 scan_part-loop-p-smaller-in-One t c =
-    let q = c.loop-p in
     let C = code_of c.args.scan.words.now 0 in
     let e = rw (c.in_ok-look_at.was, c.in-One.is) at c.look_at.ensures in
-    let f = fits_at C (rules_of c.args.scan.allowed) c.args.part.opens c.args.part.weight q.p c.args.part.to.0 c.loop-p-test.true c.requires.within c.requires.under e in
+    let f = fits_at C (rules_of c.args.scan.allowed) c.args.part.opens c.args.part.weight c.loop-p.p c.args.part.to.0 c.loop-p-test.true c.requires.within c.requires.under e in
     omega (arith, f.1)
 
 pub scan_part-loop-p-preserved-in-One : goal.scan_part-loop-p-preserved-in-One
@@ -194,7 +178,7 @@ scan_part-loop-p-preserved-in-One t c =
     let C = code_of c.args.scan.words.now 0 in
     let e = rw (c.in_ok-look_at.was, c.in-One.is) at c.look_at.ensures in
     let f = fits_at C (rules_of c.args.scan.allowed) c.args.part.opens c.args.part.weight q.p c.args.part.to.0 c.loop-p-test.true c.requires.within c.requires.under e in
-    one_passed C c.args.scan.allowed c.args.part c.args.total c.args.self.now.marks c.requires.within c.requires.few q.invariant c.loop-p-test.true c.if-scan-sum.false e c.enter.ensures (omega (arith, f.1)) (omega arith) (c.in_ok-found-in-One.was) c.deepest_of-deep.ensures
+    one_passed q.invariant c.requires.within c.requires.few c.loop-p-test.true c.if-scan-sum.false e c.enter.ensures (omega (arith, f.1)) (omega arith) (c.in_ok-found-in-One.was) c.deepest_of-deep.ensures
 
 pub scan_part-enter_both-requires : goal.scan_part-enter_both-requires
 scan_part-enter_both-requires t c =
@@ -202,23 +186,20 @@ scan_part-enter_both-requires t c =
     let C = code_of c.args.scan.words.now 0 in
     let e = rw (c.in_ok-look_at.was, c.in-Two.is) at c.look_at.ensures in
     let f = fits_at C (rules_of c.args.scan.allowed) c.args.part.opens c.args.part.weight q.p c.args.part.to.0 c.loop-p-test.true c.requires.within c.requires.under e in
-    (omega (arith, max_lt f.0.smaller f.1.smaller, later C (rules_of c.args.scan.allowed) c.args.part.opens c.args.part.from.0 q.p c.args.part.to.0 q.invariant.from), (ready_part C c.args.scan.allowed c.args.part c.args.total c.args.self.now.marks c.requires.within c.requires.few q.invariant c.loop-p-test.true c.if-scan-sum.false _ f.0.within (weighs_at C c.args.scan.allowed c.args.part.opens c.args.part.weight q.p c.args.part.to.0 c.requires.weighs e) f.0.under c.requires.small, f.1.within, asks_both C (rules_of c.args.scan.allowed) c.args.part.opens c.args.part.weight q.p c.args.part.to.0 e, omega (arith, c.loop-p-test.true, c.requires.within, c.requires.few)))
+    (omega (arith, max_lt f.0.smaller f.1.smaller, later C (rules_of c.args.scan.allowed) c.args.part.opens c.args.part.from.0 q.p c.args.part.to.0 q.invariant.from), (ready_part q.invariant c.requires.within c.requires.few c.loop-p-test.true c.if-scan-sum.false _ f.0.within (weighs_at C c.args.scan.allowed c.args.part.opens c.args.part.weight q.p c.args.part.to.0 c.requires.weighs e) f.0.under c.requires.small, f.1.within, asks_both C (rules_of c.args.scan.allowed) c.args.part.opens c.args.part.weight q.p c.args.part.to.0 e, omega (arith, c.loop-p-test.true, c.requires.within, c.requires.few)))
 
 pub scan_part-returns-in_err-found-in-Two : goal.scan_part-returns-in_err-found-in-Two
 scan_part-returns-in_err-found-in-Two t c =
-    let q = c.loop-p in
-    let C = code_of c.args.scan.words.now 0 in
     let e = rw (c.in_ok-look_at.was, c.in-Two.is) at c.look_at.ensures in
-    let y = two_stopped C c.args.scan.allowed c.args.part c.args.total c.args.self.now.marks c.requires.within c.requires.few q.invariant c.loop-p-test.true c.if-scan-sum.false e c.enter_both.ensures (c.in_err-found-in-Two.was) in
+    let y = two_stopped c.loop-p.invariant c.requires.within c.requires.few c.loop-p-test.true c.if-scan-sum.false e c.enter_both.ensures (c.in_err-found-in-Two.was) in
     let z : c.from_residual-in_err-found-in-Two.result ≡ c.enter_both.result = grind (arith, common_steps) in
     rw z y
 
 pub scan_part-loop-p-smaller : goal.scan_part-loop-p-smaller
 scan_part-loop-p-smaller t c =
-    let q = c.loop-p in
     let C = code_of c.args.scan.words.now 0 in
     let e = rw (c.in_ok-look_at.was, c.in-Two.is) at c.look_at.ensures in
-    let f = fits_at C (rules_of c.args.scan.allowed) c.args.part.opens c.args.part.weight q.p c.args.part.to.0 c.loop-p-test.true c.requires.within c.requires.under e in
+    let f = fits_at C (rules_of c.args.scan.allowed) c.args.part.opens c.args.part.weight c.loop-p.p c.args.part.to.0 c.loop-p-test.true c.requires.within c.requires.under e in
     omega (arith, f.2)
 
 pub scan_part-loop-p-preserved : goal.scan_part-loop-p-preserved
@@ -227,10 +208,8 @@ scan_part-loop-p-preserved t c =
     let C = code_of c.args.scan.words.now 0 in
     let e = rw (c.in_ok-look_at.was, c.in-Two.is) at c.look_at.ensures in
     let f = fits_at C (rules_of c.args.scan.allowed) c.args.part.opens c.args.part.weight q.p c.args.part.to.0 c.loop-p-test.true c.requires.within c.requires.under e in
-    two_passed C c.args.scan.allowed c.args.part c.args.total c.args.self.now.marks c.requires.within c.requires.few q.invariant c.loop-p-test.true c.if-scan-sum.false e c.enter_both.ensures (omega (arith, f.2)) (omega arith) (c.in_ok-found-in-Two.was) c.deepest_of-deep-in-Two.ensures
+    two_passed q.invariant c.requires.within c.requires.few c.loop-p-test.true c.if-scan-sum.false e c.enter_both.ensures (omega (arith, f.2)) (omega arith) (c.in_ok-found-in-Two.was) c.deepest_of-deep-in-Two.ensures
 
 pub scan_part-returns : goal.scan_part-returns
 scan_part-returns t c =
-    let q = c.loop-p in
-    let C = code_of c.args.scan.words.now 0 in
-    standing_end C c.args.scan.allowed c.args.part c.args.total c.args.self.now.marks c.requires.within c.requires.few q.invariant c.loop-p-test.false refl refl
+    standing_end c.loop-p.invariant c.requires.within c.requires.few c.loop-p-test.false refl refl
