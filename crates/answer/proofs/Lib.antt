@@ -1,2 +1,3 @@
 pub mod Laws
+pub mod Missing
 pub mod Numbers

@@ -1,4 +1,5 @@
--- A fault of a library has one of the numbers 1 to 28 of document 01's table: never 0, by which the calls for C say that there is none. Assumes nothing.
+-- A fault of a library has one of the numbers 1 to 28 of document 01's table: never 0, by which the calls for
+-- C say that there is none. Assumes nothing.
 use mathlib.Core.Path.{◌≡◌, refl}
 use mathlib.Core.Bool.{Bool, true, false, cond, ◌&&◌}
 use Prim.Native.Nat.{ℕ, zero, suc, ◌+◌, ◌≤◌}
@@ -15,7 +16,8 @@ unfoldable pub is_fault : Fault → Bool
 is_fault Nothing = false
 is_fault (At number place) = true
 
--- equations for `simp`, which takes a chain of tests apart by them: `numbered` of the chain is `true` where that of each test is
+-- equations for `simp`, which takes a chain of tests apart by them: `numbered` of the chain is `true` where
+-- that of each test is
 pub of_tests : (a b : Fault) → numbered (or_else a b) ≡ cond (is_fault a) (numbered a) (numbered b)
 unfolding is_fault
 of_tests (At n p) b = refl

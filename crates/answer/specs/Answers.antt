@@ -1,4 +1,5 @@
--- What a call gives back, as document 01 counts it ('Numbers given back'): values, or a refusal. A `Result` with a `Refusal` is read as one of these by `answered`.
+-- What a call gives back, as document 01 counts it ('Numbers given back'): values, or a refusal. A `Result`
+-- with a `Refusal` is read as one of these by `answered`.
 -- Assumes nothing.
 use Rattle.std.specs.Prelude.{ℕ, Bool, cond, ltb, Result, Ok, Err}
 use Rattle.answer.specs.Reasons.{number_of}
@@ -14,7 +15,8 @@ abbrev pub map_answer : {A B : Type 0} → (A → B) → Answer A → Answer B
 map_answer f (given a) = given (f a)
 map_answer f (refused number place) = refused number place
 
--- '29, then 30, come after the whole check'. 29: 'executable or constant number not there', where `count` are there; else what follows
+-- '29, then 30, come after the whole check'. 29: 'executable or constant number not there', where `count` are
+-- there; else what follows
 abbrev pub or_missing : {A : Type 0} → ℕ → ℕ → Answer A → Answer A
 or_missing index count a = cond (ltb index count) a (refused 29 0)
 

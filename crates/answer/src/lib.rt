@@ -10,7 +10,8 @@ ghost use Rattle.answer.specs.Reasons.{number_of};
 pub use reason::Reason;
 use std::fmt;
 
-// Why a call is refused, and where the fault lies: in the file, in a word, in an executable or one of its entries.
+// Why a call is refused, and where the fault lies: in the file, in a word, in an executable or one of its
+// entries.
 #[derive(Clone, Copy, Debug, PartialEq, Eq)]
 pub struct Refusal {
     pub reason: Reason,

@@ -9,11 +9,11 @@ ghost use Rattle.binary.specs.Bytes.{u8_at, u16_at, u32_at};
 ghost use Rattle.binary.specs.Ranges.{range_of, inside, share};
 
 // The address of a word, counted in words from the start of the opcode table.
-#[derive(Clone, Copy, Debug, PartialEq, Eq, PartialOrd, Ord)]
+#[derive(Clone, Copy, Debug, Default, PartialEq, Eq, PartialOrd, Ord)]
 pub struct WordAddress(pub u32);
 
 // The offset of a byte. Offsets that a file holds have 32 bits, their sums more.
-#[derive(Clone, Copy, Debug, PartialEq, Eq, PartialOrd, Ord)]
+#[derive(Clone, Copy, Debug, Default, PartialEq, Eq, PartialOrd, Ord)]
 pub struct ByteOffset(pub u64);
 
 // Where a word starts, counted in bytes from the start of the opcode table: the one way from a word address
@@ -37,27 +37,13 @@ pub fn u8_at(s: &[u8], at: ByteOffset) -> u8
     s.get(at.0 as usize).copied().unwrap_or(0)
 }
 
-// The number of two bytes, the low one first.
-pub fn u16_of(low: u8, high: u8) -> u16
-    ensures { result ≡ low + high * 256 }
-{
-    u16::from_le_bytes([low, high])
-}
-
-// The number of two halves, the low one first.
-pub fn u32_of(low: u16, high: u16) -> u32
-    ensures { result ≡ low + high * 65536 }
-{
-    low as u32 + high as u32 * 65536
-}
-
-// Where all bytes of a number are there they are taken by index, which compiles to one load.
+// Where all bytes of a number are there they are taken by index, which compiles to one test and one load.
 pub fn u16_at(s: &[u8], at: ByteOffset) -> u16
     ensures { result ≡ u16_at s.now at.0 }
 {
     let i = at.0 as usize;
     if 2 <= s.len().saturating_sub(i) {
-        u16_of(s[i], s[i + 1])
+        u16::from_le_bytes([s[i], s[i + 1]])
     } else {
         u16::from(u8_at(s, at))
     }
@@ -71,10 +57,12 @@ pub fn u32_at(s: &[u8], at: ByteOffset) -> u32
         u32::from_le_bytes([s[i], s[i + 1], s[i + 2], s[i + 3]])
     } else {
         let rest = tail(s, at);
-        u32_of(
-            u16_at(rest, ByteOffset(0)),
-            u16::from(u8_at(rest, ByteOffset(2))),
-        )
+        u32::from_le_bytes([
+            u8_at(rest, ByteOffset(0)),
+            u8_at(rest, ByteOffset(1)),
+            u8_at(rest, ByteOffset(2)),
+            0,
+        ])
     }
 }
 

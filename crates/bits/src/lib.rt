@@ -11,8 +11,5 @@ pub fn field(word: u32, pos: u32, width: u32) -> u32
     ensures { result ≡ field pos width word }
 {
     let above = word.checked_shr(pos).unwrap_or(0);
-    match 1u32.checked_shl(width) {
-        Some(limit) => above % limit,
-        None => above,
-    }
+    1u32.checked_shl(width).map_or(above, |limit| above % limit)
 }

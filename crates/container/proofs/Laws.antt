@@ -1,4 +1,5 @@
--- What a table that is not misplaced, and one that does not meet the opcode table, say of bytes. Assumes nothing.
+-- What a table that is not misplaced, and one that does not meet the opcode table, say of bytes.
+-- Assumes nothing.
 use mathlib.Core.Path.{◌≡◌, refl}
 use mathlib.Core.Bool.{Bool, true, false, not, ◌&&◌, ◌||◌}
 use mathlib.Core.List.{List}
@@ -18,7 +19,8 @@ pub empty_placed : (align size length : ℕ) (t : Table) → t.count ≡ 0 → m
 unfolding misplaced
 empty_placed align size length t e = rw (eq-eqb t.count 0 e)
 
--- any other starts at a multiple, from its section's start, and ends inside the file: base + offset + count × size in whole numbers
+-- any other starts at a multiple, from its section's start, and ends inside the file: base + offset + count ×
+-- size in whole numbers
 pub record Placed (align size length base offset count : ℕ) : Type 0 where
   pub aligned : offset % align ≡ 0
   pub ends : base + offset + count * size ≤ length

@@ -1,4 +1,5 @@
--- A DVLE (document 01, 'Layout of a library'; the offsets are those of documents 000 and 001), and refusals 13 to 17.
+-- A DVLE (document 01, 'Layout of a library'; the offsets are those of documents 000 and 001), and refusals
+-- 13 to 17.
 -- Assumes nothing.
 use Rattle.std.specs.Prelude.{ℕ, ◌+◌, ◌*◌, ◌%◌, Bool, not, ◌&&◌, ◌||◌, List, [], ◌∷◌, eqb, leb, ltb, length, drop}
 use Rattle.answer.specs.Faults.{fault_if, or_else}
@@ -62,7 +63,8 @@ overlapped_by_tables words e =
     || (words_meet_table words 16 e.labels
     || (words_meet_table words 8 e.outputs || (words_meet_table words 8 e.uniforms || words_meet_table words 1 e.symbols)))
 
--- 13; 14: no "DVLE"; 15: type not 0 or 1, with the highest type a parameter; 16; 17. The place is the executable's, words is the opcode table
+-- 13; 14: no "DVLE"; 15: type not 0 or 1, with the highest type a parameter; 16; 17. The place is the
+-- executable's, words is the opcode table
 unfoldable pub executable_fault : ℕ → Table → List ℕ → ℕ → ℕ → Fault
 executable_fault mostType words file index place =
     let e = executable_of file index in

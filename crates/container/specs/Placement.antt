@@ -20,12 +20,14 @@ table_at section base field =
 abbrev pub table_range : ℕ → Table → Range
 table_range size t = range_of t.start t.count size
 
--- 'the others start at multiples of 4 from their section start': unaligned, counted from there, or outside the file; never with count 0, which 'has no offset to test'
+-- 'the others start at multiples of 4 from their section start': unaligned, counted from there, or outside
+-- the file; never with count 0, which 'has no offset to test'
 unfoldable pub misplaced : ℕ → ℕ → ℕ → Table → Bool
 misplaced align size bytes t =
     not (eqb t.count 0) && (not (eqb (t.offset % align) 0) || not (inside (table_range size t) bytes))
 
--- the opcode table, whose entries have 4 bytes, overlapping a range of bytes or another table; an empty table overlaps nothing
+-- the opcode table, whose entries have 4 bytes, overlapping a range of bytes or another table; an empty table
+-- overlaps nothing
 unfoldable pub words_meet : Table → Range → Bool
 words_meet words r = share (table_range 4 words) r
 

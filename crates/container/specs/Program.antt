@@ -1,4 +1,5 @@
--- The header and the DVLP (document 01, 'Layout of a library'; the offsets are those of documents 000 and 001), and refusals 1 to 8.
+-- The header and the DVLP (document 01, 'Layout of a library'; the offsets are those of documents 000 and
+-- 001), and refusals 1 to 8.
 -- Assumes nothing.
 use Rattle.std.specs.Prelude.{ℕ, ◌+◌, ◌*◌, Bool, not, ◌||◌, List, [], ◌∷◌, eqb, ltb, length, drop}
 use Rattle.answer.specs.Faults.{fault_if, or_else}
@@ -55,7 +56,8 @@ misplaced_table bytes p =
     misplaced 4 4 bytes p.words
     || (misplaced 4 8 bytes p.descriptors || (misplaced 4 8 bytes p.lines || misplaced 1 1 bytes p.file_names))
 
--- .. or the opcode table overlapping the header and DVLP, which are the file's first bytes, or another DVLP table
+-- .. or the opcode table overlapping the header and DVLP, which are the file's first bytes, or another DVLP
+-- table
 unfoldable pub overlapped_words : ℕ → Program → Bool
 overlapped_words size p =
     words_meet p.words (record { start = byte_offset 0; size = size })

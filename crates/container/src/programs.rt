@@ -1,9 +1,9 @@
 // The header and the DVLP: refusals 1 to 8.
-ghost use Rattle.std.specs.Prelude.{◌≡◌, ◌<◌, ◌^◌, length};
+ghost use Rattle.std.specs.Prelude.{◌≡◌, ◌||◌, drop, length};
 ghost use Rattle.answer.specs.Faults.{faulted};
 ghost use Rattle.container.specs.Program.{count_of, program_base, program_of, header_fault, bad_sizes, misplaced_table, overlapped_words, program_fault, library_fault};
 
-use crate::placement::{Table, is_misplaced, table_at, words_meet, words_meet_table};
+use crate::placement::{Section, Table, is_bad_table, is_misplaced, words_meet};
 use answer::{Reason, Refusal};
 use binary::{ByteOffset, Range, tail, u32_at};
 
@@ -12,7 +12,8 @@ const DVLB: u32 = 0x424c_5644;
 
 const DVLP: u32 = 0x504c_5644;
 
-// Where the words and the descriptors lie and how many there are; the line table and the symbol table of file names.
+// Where the words and the descriptors lie and how many there are; the line table and the symbol table of file
+// names.
 #[derive(Clone, Copy)]
 pub struct Program {
     pub words: Table,
@@ -35,28 +36,28 @@ pub fn executable_count(file: &[u8]) -> u32
     u32_at(file, ByteOffset(4))
 }
 
-// Where the DVLP starts: after the header.
-fn program_base(file: &[u8]) -> ByteOffset
-    ensures { (result.0 ≡ program_base file.now) × (result.0 < 2 ^ 36) }
+// The DVLP, which starts after the header.
+fn program_section(file: &[u8]) -> Section<'_>
+    ensures starts { result.base.0 ≡ program_base file.now }
+    ensures holds { result.bytes.now ≡ drop (program_base file.now) file.now }
 {
-    ByteOffset(8 + executable_count(file) as u64 * 4)
+    let base = ByteOffset(8 + executable_count(file) as u64 * 4);
+    Section {
+        bytes: tail(file, base),
+        base,
+    }
 }
 
 // What the DVLP holds, in a file of any kind.
 pub fn program_of(file: &[u8]) -> Program
     ensures { result ≡ program_of file.now }
 {
-    let base = program_base(file);
-    let section = tail(file, base);
-    let words = table_at(section, base, 0x08);
-    let descriptors = table_at(section, base, 0x10);
-    let lines = table_at(section, base, 0x18);
-    let file_names = table_at(section, base, 0x20);
+    let section = program_section(file);
     Program {
-        words,
-        descriptors,
-        lines,
-        file_names,
+        words: section.table(0x08),
+        descriptors: section.table(0x10),
+        lines: section.table(0x18),
+        file_names: section.table(0x20),
     }
 }
 
@@ -91,31 +92,22 @@ fn has_bad_sizes(program: Program, limits: Limits) -> bool
         | (limits.descriptors < program.descriptors.count)
 }
 
-// Whether one of the four tables is unaligned or outside the file.
-#[tactic(auto, unfolding(crate::specs::Program::misplaced_table))]
-fn has_misplaced_table(program: Program, file: &[u8]) -> bool
-    ensures { result ≡ misplaced_table (length file.now) program }
-{
-    is_misplaced(program.words, 4, 4, file)
-        | is_misplaced(program.descriptors, 4, 8, file)
-        | is_misplaced(program.lines, 4, 8, file)
-        | is_misplaced(program.file_names, 1, 1, file)
-}
-
-// Whether the opcode table shares a byte with the header and the DVLP, which together are `size` bytes from the file's start, or with another table.
-#[tactic(auto, unfolding(crate::specs::Program::overlapped_words))]
-fn words_overlap(program: Program, size: u64) -> bool
-    ensures { result ≡ overlapped_words size program }
+// Whether one of the four tables is unaligned or outside the file, or the opcode table shares a byte with
+// another or with the header and the DVLP, which together are `size` bytes from the file's start.
+#[tactic(auto, unfolding(crate::specs::Program::misplaced_table, crate::specs::Program::overlapped_words))]
+fn has_bad_table(program: Program, size: u64, file: &[u8]) -> bool
+    ensures { result ≡ (misplaced_table (length file.now) program || overlapped_words size program) }
 {
     let words = program.words;
     let first = Range {
         start: ByteOffset(0),
         size,
     };
-    words_meet(words, first)
-        | words_meet_table(words, program.descriptors, 8)
-        | words_meet_table(words, program.lines, 8)
-        | words_meet_table(words, program.file_names, 1)
+    is_misplaced(words, 4, 4, file)
+        | words_meet(words, first)
+        | is_bad_table(program.descriptors, 4, 8, words, file)
+        | is_bad_table(program.lines, 4, 8, words, file)
+        | is_bad_table(program.file_names, 1, 1, words, file)
 }
 
 // 5 to 8: the DVLP and its tables.
@@ -123,7 +115,7 @@ fn words_overlap(program: Program, size: u64) -> bool
 fn program_fault(file: &[u8], limits: Limits) -> Result<(), Refusal>
     ensures { faulted result ≡ program_fault limits file.now }
 {
-    let base = program_base(file);
+    let base = program_section(file).base;
     let end = base.0 + 40;
     if (file.len() as u64) < end {
         return Err(Reason::FileCutOff.at(0));
@@ -135,7 +127,7 @@ fn program_fault(file: &[u8], limits: Limits) -> Result<(), Refusal>
     if has_bad_sizes(program, limits) {
         return Err(Reason::TableSizes.at(0));
     }
-    if has_misplaced_table(program, file) | words_overlap(program, end) {
+    if has_bad_table(program, end, file) {
         return Err(Reason::MisplacedProgramTable.at(0));
     }
     Ok(())

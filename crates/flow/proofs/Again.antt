@@ -1,4 +1,5 @@
--- A jump that goes on in one region goes on up to every end past its target, whatever is open: the target need not be searched again. Assumes nothing.
+-- A jump that goes on in one region goes on up to every end past its target, whatever is open: the target
+-- need not be searched again. Assumes nothing.
 use mathlib.Core.Path.{◌≡◌, refl}
 use mathlib.Core.Bool.{Bool, true, false, ◌&&◌, ◌||◌}
 use mathlib.Core.List.{List, [], ◌∷◌}
@@ -15,7 +16,7 @@ use Rattle.flow.specs.Rules.{Code, Rules, pick}
 use Rattle.flow.specs.Visits.{fault_at}
 use Rattle.flow.specs.declared.look.Look.TheVariants.{Next}
 use Rattle.flow.specs.declared.look.Opens.{Opens}
-use Rattle.flow.specs.declared.scan.Deep.{Deep}
+use Rattle.flow.specs.declared.depths.Depths.{Depths}
 use Rattle.flow.proofs.Depth.{spans_in}
 use Rattle.flow.proofs.Tests.{false_not_true, both, either}
 
@@ -92,12 +93,12 @@ module _ (C : Code) where
       record { ahead = ltb-true p dst after; own = λ E' h. own_again (p + 1) E E' dst own h }
 
   -- what is told without the tests is what they tell
-  module _ (R : Rules) (m : List Bool) (x : Opens) (w p E k : ℕ) (d : Deep) where
-    pub goes_next : goes_on (C.control p) k E ≡ true → (1 ≤ k → Recalled C R m (C.control p) p k d) → given Next ≡ look_of C R x w p E
+  module _ (R : Rules) (m : List Bool) (x : Opens) (w p E : ℕ) (found : Bool) (k : ℕ) (d : Depths) where
+    pub goes_next : goes_on (C.control p) found E ≡ true → (found ≡ true → Recalled C R m (C.control p) p k d) → given Next ≡ look_of C R x w p E
     unfolding look_of fault_at
     goes_next e q = on (C.control p) refl e q
       where
-        on : (i : Control) → C.control p ≡ i → goes_on i k E ≡ true → (1 ≤ k → Recalled C R m i p k d) → given Next ≡ unless (fault_at C R x p E) (parts_of R (C.control p) x w p)
+        on : (i : Control) → C.control p ≡ i → goes_on i found E ≡ true → (found ≡ true → Recalled C R m i p k d) → given Next ≡ unless (fault_at C R x p E) (parts_of R (C.control p) x w p)
         on Unknown z g f = rw z
         on Plain z g f = rw z
         on End z g f = rw z
@@ -108,5 +109,5 @@ module _ (C : Code) where
         on (Call c dst num) z g f = absurd (false_not_true g)
         on (Jump c dst num) z g f =
             let (known, within) = both _ _ g in
-            let j = f (ltb-true 0 k known) in
+            let j = f known in
             rw (z, lt-ltb p dst.0 j.ahead, within, j.own E (ltb-true dst.0 E within))

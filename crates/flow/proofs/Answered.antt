@@ -1,4 +1,5 @@
--- Demand 3 by the check's answer: what a total answered for some words says of every run of them, whatever their descriptors. Assumes nothing.
+-- Demand 3 by the check's answer: what a total answered for some words says of every run of them, whatever
+-- their descriptors. Assumes nothing.
 use mathlib.Core.Path.{◌≡◌, refl, sym, ap, ◌∙◌}
 use mathlib.Core.Bool.{◌||◌}
 use mathlib.Core.List.{List, [], ◌∷◌}

@@ -1,4 +1,5 @@
--- The depths to which own words and visits are followed are enough: both meet the equation of the rules, and nobody sees a depth from here on. Assumes nothing.
+-- The depths to which own words and visits are followed are enough: both meet the equation of the rules, and
+-- nobody sees a depth from here on. Assumes nothing.
 use mathlib.Core.Path.{◌≡◌, refl, sym, ap, ap₂, ◌∙◌}
 use mathlib.Core.Bool.{true, false, ◌&&◌}
 use mathlib.Core.List.{List, [], ◌∷◌}
@@ -113,17 +114,17 @@ module _ (C : Code) (R : Rules) where
   unfolding size
   nearer x p q E h l = omega arith
 
-  pub spare_if : (x : Opens) → leb R.ifs x.ifs ≡ false → spare C R x ≡ suc (spare C R (in_if x))
+  pub spare_if : (x : Opens) → leb R.ifs x.depths.ifs ≡ false → spare C R x ≡ suc (spare C R (in_if x))
   unfolding spare
-  spare_if x h = omega (arith, leb-false R.ifs x.ifs h)
+  spare_if x h = omega (arith, leb-false R.ifs x.depths.ifs h)
 
-  pub spare_loop : (x : Opens) → leb R.loops x.loops ≡ false → spare C R x ≡ suc (spare C R (in_loop x))
+  pub spare_loop : (x : Opens) → leb R.loops x.depths.loops ≡ false → spare C R x ≡ suc (spare C R (in_loop x))
   unfolding spare
-  spare_loop x h = omega (arith, leb-false R.loops x.loops h)
+  spare_loop x h = omega (arith, leb-false R.loops x.depths.loops h)
 
-  pub spare_call : (x : Opens) → leb R.calls x.calls ≡ false → spare C R x ≡ suc (spare C R (in_call x))
+  pub spare_call : (x : Opens) → leb R.calls x.depths.calls ≡ false → spare C R x ≡ suc (spare C R (in_call x))
   unfolding spare
-  spare_call x h = omega (arith, leb-false R.calls x.calls h)
+  spare_call x h = omega (arith, leb-false R.calls x.depths.calls h)
 
   -- two tracers that agree on all that is smaller than n
   abbrev Agree : Tracer → Tracer → ℕ → Type 0

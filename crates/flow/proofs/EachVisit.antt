@@ -1,4 +1,5 @@
--- What holds of each visit of a region, told of its word and of the parts that the word asks for. Assumes nothing.
+-- What holds of each visit of a region, told of its word and of the parts that the word asks for. Assumes
+-- nothing.
 use mathlib.Core.Path.{◌≡◌, refl, sym, ◌∙◌}
 use mathlib.Core.Bool.{Bool, true, false}
 use mathlib.Core.List.{List, [], ◌∷◌, ◌++◌}

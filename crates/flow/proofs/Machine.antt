@@ -25,12 +25,12 @@ module _ (C : Code) (R : Rules) (g : ℕ → ℕ) (pos : (p : ℕ) → 1 ≤ g p
   data Rest : Bool → Opens → ℕ → List Open → ℕ → Type 0 where
     main_r : {E m : ℕ} → Rest false none_open E (main E ∷ []) m
     part_r : {c : Bool} {x : Opens} {E e q k m a : ℕ} {os : List Open}
-        → x.ifs < R.ifs → Region C R g c x q E k → Rest c x E os m → k + m ≤ a → Rest true (in_if x) e (part e q ∷ os) a
+        → x.depths.ifs < R.ifs → Region C R g c x q E k → Rest c x E os m → k + m ≤ a → Rest true (in_if x) e (part e q ∷ os) a
     body_r : {c : Bool} {x : Opens} {E e s n k m a j : ℕ} {os : List Open}
-        → x.loops < R.loops → s < e → Region C R g true (in_loop x) s e j → Region C R g c x e E k → Rest c x E os m → n * j + (k + m) ≤ a
+        → x.depths.loops < R.loops → s < e → Region C R g true (in_loop x) s e j → Region C R g c x e E k → Rest c x E os m → n * j + (k + m) ≤ a
         → Rest true (in_loop x) e (body e s n ∷ os) a
     called_r : {c : Bool} {x : Opens} {E e q k m a : ℕ} {os : List Open}
-        → x.calls < R.calls → Region C R g c x q E k → Rest c x E os m → k + m ≤ a → Rest true (in_call x) e (called e q ∷ os) a
+        → x.depths.calls < R.calls → Region C R g c x q E k → Rest c x E os m → k + m ≤ a → Rest true (in_call x) e (called e q ∷ os) a
 
   -- a state at a fetch, from which at most `most` is spent
   record Fit (s : State) (most : ℕ) : Type 0 where
@@ -82,12 +82,12 @@ module _ (C : Code) (R : Rules) (g : ℕ → ℕ) (pos : (p : ℕ) → 1 ≤ g p
 
   -- the counts that the check kept are those of the open regions, and keep to the limits
   record Counted (x : Opens) (os : List Open) : Type 0 where
-    calls : open_calls os ≡ x.calls
-    ifs : open_ifs os ≡ x.ifs
-    loops : open_loops os ≡ x.loops
-    calls_ok : x.calls ≤ R.calls
-    ifs_ok : x.ifs ≤ R.ifs
-    loops_ok : x.loops ≤ R.loops
+    calls : open_calls os ≡ x.depths.calls
+    ifs : open_ifs os ≡ x.depths.ifs
+    loops : open_loops os ≡ x.depths.loops
+    calls_ok : x.depths.calls ≤ R.calls
+    ifs_ok : x.depths.ifs ≤ R.ifs
+    loops_ok : x.depths.loops ≤ R.loops
 
   counted : {c : Bool} {x : Opens} {E m : ℕ} {os : List Open} → Rest c x E os m → Counted x os
   counted main_r = omega arith

@@ -1,4 +1,5 @@
--- What is left by visits without a fault: the total is their sum, and the marks count the distinct words. Assumes nothing.
+-- What is left by visits without a fault: the total is their sum, and the marks count the distinct words.
+-- Assumes nothing.
 use mathlib.Core.Path.{◌≡◌, refl, sym, ap, ◌∙◌}
 use mathlib.Core.Bool.{Bool, true, false, ◌&&◌, ◌||◌}
 use mathlib.Core.List.{List, [], ◌∷◌}

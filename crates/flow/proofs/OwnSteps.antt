@@ -76,7 +76,3 @@ after_no_block (If c dst num) p E e = absurd (true_not_false e)
 after_no_block (Loop r dst) p E e = absurd (true_not_false e)
 after_no_block (Call c dst num) p E e = refl
 after_no_block (Jump c dst num) p E e = refl
-
--- the next own word is further on
-pub after_further : (i : Control) (p E : ℕ) {n : ℕ} → p < E → after_of i p E ≡ Some n → p < n
-after_further i p E l e = let (s, z) = at_of (spans i p E) {n = next_of i p} e in omega (arith, spans_in i p E l s)

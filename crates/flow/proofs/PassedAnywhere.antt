@@ -1,5 +1,7 @@
--- Over any rules: a region that the check passes with some opens, weight, total and marks is passed with any others that fit and agree in whether a LOOP is open in the same main or called region,
--- with total + weight × cost, and adds the same words to the marks. The code stands on the steps of it (Passing). Assumes nothing.
+-- Over any rules: a region that the check passes with some opens, weight, total and marks is passed with any
+-- others that fit and agree in whether a LOOP is open in the same main or called region,
+-- with total + weight × cost, and adds the same words to the marks. The code stands on the steps of it
+-- (Passing). Assumes nothing.
 use mathlib.Core.Path.{◌≡◌, refl, sym, ap, ap₂, ◌∙◌}
 use mathlib.Core.Bool.{Bool, true, false, ◌||◌}
 use mathlib.Core.List.{List, [], ◌∷◌, ◌++◌}
@@ -13,13 +15,13 @@ use Rattle.answer.specs.Faults.{Fault}
 use Rattle.answer.specs.Faults.{Nothing, At}
 use Rattle.instruction.specs.declared.flow_control.Control.{Control}
 use Rattle.instruction.specs.declared.flow_control.Control.TheVariants.{Unknown, Plain, Emit, End, Break, If, Loop, Call, Jump}
-use Rattle.flow.specs.Inside.{part_of, Scanned, scanned, scan_of, beyond, Over, Under, Room, deep_of}
+use Rattle.flow.specs.Inside.{part_of, Scanned, scanned, scan_of, beyond, Over, Under, Room}
 use Rattle.flow.specs.Own.{next_of, has}
 use Rattle.flow.specs.Rules.{Code, Rules, in_if, in_loop, in_call, pick}
 use Rattle.flow.specs.Visits.{Visit, Trace, nothing, follow, and_then, unless_fault, parts, fault_at, visit, region, size, trace, visited}
 use Rattle.flow.specs.declared.look.Opens.{Opens}
 use Rattle.flow.specs.declared.look.Part.{Part}
-use Rattle.flow.specs.declared.scan.Deep.{Deep}
+use Rattle.flow.specs.declared.depths.Depths.{Depths}
 use Rattle.flow.proofs.Depth.{Passed, fault_none, if_bounds, loop_bounds, call_bounds, next_in, fewer, nearer, spare_if, spare_loop, spare_call, trace_eq}
 use Rattle.flow.proofs.EachVisit.{trace_of, went_on, unstopped}
 use Rattle.flow.proofs.Marks.{replay_flow, replay_marks}
@@ -109,20 +111,21 @@ module _ (C : Code) (R : Rules) where
     pub flow : (scan_of C R r t m).flow ≡ given t₁
     pub marks : (i : ℕ) → i < length m → get_or (scan_of C R r t m).marks i false ≡ (added i || get_or m i false)
 
-  -- passed once: its cost; the depths, no more than the most that is open around it and at its visits; and the words it adds, which are the same wherever it fits
+  -- passed once: its cost; the depths, no more than the most that is open around it and at its visits; and
+  -- the words it adds, which are the same wherever it fits
   pub record Anywhere (r : Part) (t t₁ : ℕ) (m m₁ : List Bool) : Type 0 where
     pub cost : ℕ
-    pub depths : Deep
-    pub least : (top : Deep) → Below (deep_of r.opens) top → Each (Within C R top) (trace_of C R r).visits → Below depths top
-    pub over : Over depths r.opens
+    pub depths : Depths
+    pub least : (top : Depths) → Below r.opens.depths top → Each (Within C R top) (trace_of C R r).visits → Below depths top
+    pub over : Over depths r.opens.depths
     pub under : Under R depths
     pub added : ℕ → Bool
     pub adds : t₁ ≡ t + r.weight * cost
     pub marks : (i : ℕ) → i < length m → get_or m₁ i false ≡ (added i || get_or m i false)
-    pub again : (x : Opens) (w u : ℕ) (m' : List Bool) → x.looped ≡ r.opens.looped → Room R x (beyond depths r.opens) → u + w * cost ≤ R.most
+    pub again : (x : Opens) (w u : ℕ) (m' : List Bool) → x.looped ≡ r.opens.looped → Room R x.depths (beyond depths r.opens.depths) → u + w * cost ≤ R.most
         → PassedWith (part_of x w r.from.0 r.to.0) u (u + w * cost) m' added
 
-  pub passed_anywhere : (r : Part) (t : ℕ) (m : List Bool) {t₁ : ℕ} {m₁ : List Bool} → r.to.0 ≤ C.words → C.words ≤ length m → Under R (deep_of r.opens) → scanned (given t₁) m₁ ≡ scan_of C R r t m → Anywhere r t t₁ m m₁
+  pub passed_anywhere : (r : Part) (t : ℕ) (m : List Bool) {t₁ : ℕ} {m₁ : List Bool} → r.to.0 ≤ C.words → C.words ≤ length m → Under R r.opens.depths → scanned (given t₁) m₁ ≡ scan_of C R r t m → Anywhere r t t₁ m m₁
   passed_anywhere r t m {t₁} {m₁} h long under e =
       let found = passed_once C R r t m h long under e in
       let l = found.left in

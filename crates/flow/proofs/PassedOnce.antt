@@ -1,4 +1,5 @@
--- A region that the check passes once, with some opens, weight, total and marks, is passed with any others that fit, at the same cost, and adds no mark where its words are marked: over any
+-- A region that the check passes once, with some opens, weight, total and marks, is passed with any others
+-- that fit, at the same cost, and adds no mark where its words are marked: over any
 -- rules. proofs/PassedAnywhere.antt has it for any marks.
 -- Assumes nothing.
 use mathlib.Core.Path.{◌≡◌, refl, sym, ap, ◌∙◌}
@@ -14,14 +15,14 @@ use Rattle.answer.specs.Answers.{Answer, given, refused}
 use Rattle.answer.specs.Faults.{Fault}
 use Rattle.answer.specs.Faults.{Nothing, At}
 use Rattle.binary.specs.declared.WordAddress.{WordAddress}
-use Rattle.flow.specs.Inside.{part_of, look_of, Scanned, scanned, stop_or, replay, scan_of, after_part, Under, Covers, Left, deepest, deep_of}
+use Rattle.flow.specs.Inside.{part_of, look_of, Scanned, scanned, stop_or, replay, scan_of, after_part, Under, Covers, Left, deepest}
 use Rattle.flow.specs.Rules.{Code, Rules, pick}
 use Rattle.flow.specs.Visits.{Visit, fault_at, size, trace}
 use Rattle.flow.specs.declared.look.Look.{Look}
 use Rattle.flow.specs.declared.look.Look.TheVariants.{Next, One, Two}
 use Rattle.flow.specs.declared.look.Opens.{Opens}
 use Rattle.flow.specs.declared.look.Part.{Part}
-use Rattle.flow.specs.declared.scan.Deep.{Deep}
+use Rattle.flow.specs.declared.depths.Depths.{Depths}
 use Rattle.flow.proofs.EachVisit.{trace_of, unstopped, each_here, each_at}
 use Rattle.flow.proofs.Looks.{later, fits_at}
 use Rattle.flow.proofs.Passing.{Below, covers_self, covers_trans, covers_set, Prefix, prefix_none, prefix_next, prefix_one, prefix_two, prefix_end}
@@ -30,7 +31,7 @@ use Rattle.flow.proofs.Replay.{scan_end, scan_27, scan_refuse, scan_next, scan_o
 use Rattle.flow.proofs.Tests.{apart}
 use Rattle.flow.proofs.Weights.{Each}
 
-below_both : (d e top : Deep) → Below d top → Below e top → Below (deepest d e) top
+below_both : (d e top : Depths) → Below d top → Below e top → Below (deepest d e) top
 below_both d e top a b = (max-le a.0 b.0, max-le a.1 b.1, max-le a.2 b.2)
 
 module _ (C : Code) (R : Rules) where
@@ -55,18 +56,19 @@ module _ (C : Code) (R : Rules) where
   part_grows r t m = replay_grows _ t m
 
   -- no more is open at a visit than this
-  abbrev pub Within : Deep → Visit → Type 0
-  Within top v = Below (deep_of v.opens) top
+  abbrev pub Within : Depths → Visit → Type 0
+  Within top v = Below v.opens.depths top
 
-  -- what is found of a part that is passed: its cost and its depths, which are no more than the most that is open around it and at its visits, and that it is passed wherever these fit
+  -- what is found of a part that is passed: its cost and its depths, which are no more than the most that is
+  -- open around it and at its visits, and that it is passed wherever these fit
   pub record Found (part : Part) (before after : ℕ) (m : List Bool) : Type 0 where
-    pub depths : Deep
+    pub depths : Depths
     pub left : Left C R part before after depths m
-    pub least : (top : Deep) → Below (deep_of part.opens) top → Each (Within top) (trace_of C R part).visits → Below depths top
+    pub least : (top : Depths) → Below part.opens.depths top → Each (Within top) (trace_of C R part).visits → Below depths top
 
   abbrev Known : ℕ → Type 0
   Known n =
-      (part : Part) (t : ℕ) (m : List Bool) (t₁ : ℕ) (m₁ : List Bool) → size C R part.opens part.from.0 part.to.0 < n → part.to.0 ≤ C.words → C.words ≤ length m → Under R (deep_of part.opens)
+      (part : Part) (t : ℕ) (m : List Bool) (t₁ : ℕ) (m₁ : List Bool) → size C R part.opens part.from.0 part.to.0 < n → part.to.0 ≤ C.words → C.words ≤ length m → Under R part.opens.depths
       → scanned (given t₁) m₁ ≡ scan_of C R part t m → Found part t t₁ m₁
 
   -- a scan that goes on is not one that stops
@@ -74,7 +76,7 @@ module _ (C : Code) (R : Rules) where
   not_stopped e z = let f = ap (λ (y : Scanned). y.flow) e in apart (cc)
 
   -- own word by own word
-  module _ (n : ℕ) (known : Known n) (part : Part) (before : ℕ) (small : size C R part.opens part.from.0 part.to.0 < suc n) (h : part.to.0 ≤ C.words) (under : Under R (deep_of part.opens))
+  module _ (n : ℕ) (known : Known n) (part : Part) (before : ℕ) (small : size C R part.opens part.from.0 part.to.0 < suc n) (h : part.to.0 ≤ C.words) (under : Under R part.opens.depths)
       (t₁ : ℕ) (m₁ : List Bool) where
     abbrev X : Opens
     X = part.opens
@@ -85,19 +87,20 @@ module _ (C : Code) (R : Rules) where
     abbrev E : ℕ
     E = part.to.0
 
-    -- up to the own word q the depths d are not above what bounds the visits, and it bounds those that are left
-    record Reached (top : Deep) (q : ℕ) (d : Deep) : Type 0 where
+    -- up to the own word q the depths d are not above what bounds the visits, and it bounds those that are
+    -- left
+    record Reached (top : Depths) (q : ℕ) (d : Depths) : Type 0 where
       deep : Below d top
       rest : Each (Within top) (trace C R X W q E).visits
 
-    abbrev Bounds : ℕ → Deep → Type 0
-    Bounds q d = (top : Deep) → Below (deep_of X) top → Each (Within top) (trace_of C R part).visits → Reached top q d
+    abbrev Bounds : ℕ → Depths → Type 0
+    Bounds q d = (top : Depths) → Below X.depths top → Each (Within top) (trace_of C R part).visits → Reached top q d
 
     abbrev Onward : ℕ → Type 0
     Onward p =
-        (q t : ℕ) (d : Deep) (m : List Bool) → p < E → p < q → C.words ≤ length m → Prefix C R part before q t d m → Bounds q d → scanned (given t₁) m₁ ≡ scan_of C R (part_of X W q E) t m → Found part before t₁ m₁
+        (q t : ℕ) (d : Depths) (m : List Bool) → p < E → p < q → C.words ≤ length m → Prefix C R part before q t d m → Bounds q d → scanned (given t₁) m₁ ≡ scan_of C R (part_of X W q E) t m → Found part before t₁ m₁
 
-    module _ {p t : ℕ} {d : Deep} {m : List Bool} (from : part.from.0 ≤ p) (long : C.words ≤ length m) (f : Prefix C R part before p t d m)
+    module _ {p t : ℕ} {d : Depths} {m : List Bool} (from : part.from.0 ≤ p) (long : C.words ≤ length m) (f : Prefix C R part before p t d m)
         (bounds : Bounds p d) (e : scanned (given t₁) m₁ ≡ scan_of C R (part_of X W p E) t m) (onward : Onward p) where
       at_end : E ≤ p → Found part before t₁ m₁
       at_end l =
@@ -117,7 +120,7 @@ module _ (C : Code) (R : Rules) where
         long' : C.words ≤ length m'
         long' = omega (arith, length-set m p true)
 
-        inner : (r : Part) {t₂ : ℕ} (t : ℕ) (m : List Bool) → size C R r.opens r.from.0 r.to.0 < size C R X p E → r.to.0 ≤ C.words → C.words ≤ length m → Under R (deep_of r.opens) → (scan_of C R r t m).flow ≡ given t₂
+        inner : (r : Part) {t₂ : ℕ} (t : ℕ) (m : List Bool) → size C R r.opens r.from.0 r.to.0 < size C R X p E → r.to.0 ≤ C.words → C.words ≤ length m → Under R r.opens.depths → (scan_of C R r t m).flow ≡ given t₂
             → Found r t t₂ (scan_of C R r t m).marks
         inner r {t₂} t m less within long y z =
             known r t m t₂ (scan_of C R r t m).marks (omega (arith, later C R X part.from.0 p E from)) within long y (ap (λ (s : Answer ℕ). scanned s (scan_of C R r t m).marks) (sym z))
@@ -191,16 +194,16 @@ module _ (C : Code) (R : Rules) where
           by true z = most (ltb-true p E z) (ltb R.most (t + W)) refl
           by false z = at_end (ltb-false p E z)
 
-    from_here_lem : (k p t : ℕ) (d : Deep) (m : List Bool) → E - p ≤ k → part.from.0 ≤ p → C.words ≤ length m → Prefix C R part before p t d m → Bounds p d → scanned (given t₁) m₁ ≡ scan_of C R (part_of X W p E) t m → Found part before t₁ m₁
+    from_here_lem : (k p t : ℕ) (d : Depths) (m : List Bool) → E - p ≤ k → part.from.0 ≤ p → C.words ≤ length m → Prefix C R part before p t d m → Bounds p d → scanned (given t₁) m₁ ≡ scan_of C R (part_of X W p E) t m → Found part before t₁ m₁
     from_here_lem zero p t d m b from long f bounds e = step from long f bounds e (λ q t d m l. absurd (omega arith))
     from_here_lem (suc k) p t d m b from long f bounds e = step from long f bounds e (λ q t d m l o long f bounds e. from_here_lem k q t d m (omega arith) (omega arith) long f bounds e)
 
   known_to : (n : ℕ) → Known n
   known_to zero part t m t₁ m₁ small h long under e = absurd (omega arith)
   known_to (suc n) part t m t₁ m₁ small h long under e =
-      from_here_lem n (known_to n) part t small h under t₁ m₁ part.to.0 part.from.0 t (deep_of part.opens) m (omega arith) (omega arith) long (prefix_none C R part t m under)
+      from_here_lem n (known_to n) part t small h under t₁ m₁ part.to.0 part.from.0 t part.opens.depths m (omega arith) (omega arith) long (prefix_none C R part t m under)
       (λ top b a. record { deep = b; rest = a }) e
 
   -- the law: what is passed once costs the same and is passed wherever it fits (`Left`, `Passes`)
-  pub passed_once : (part : Part) (t : ℕ) (m : List Bool) {t₁ : ℕ} {m₁ : List Bool} → part.to.0 ≤ C.words → C.words ≤ length m → Under R (deep_of part.opens) → scanned (given t₁) m₁ ≡ scan_of C R part t m → Found part t t₁ m₁
+  pub passed_once : (part : Part) (t : ℕ) (m : List Bool) {t₁ : ℕ} {m₁ : List Bool} → part.to.0 ≤ C.words → C.words ≤ length m → Under R part.opens.depths → scanned (given t₁) m₁ ≡ scan_of C R part t m → Found part t t₁ m₁
   passed_once part t m h long under e = known_to (suc (size C R part.opens part.from.0 part.to.0)) part t m _ _ (omega arith) h long under e

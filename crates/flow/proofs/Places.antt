@@ -1,4 +1,5 @@
--- Where a refusal of the flow check is: at a word of the program. Where 7, 15 and 16 do not apply, the entry's answer is the check's. Assumes nothing.
+-- Where a refusal of the flow check is: at a word of the program. Where 7, 15 and 16 do not apply, the
+-- entry's answer is the check's. Assumes nothing.
 use mathlib.Core.Path.{◌≡◌, refl}
 use mathlib.Core.Bool.{Bool, true, false, not, ◌&&◌}
 use mathlib.Core.List.{List}

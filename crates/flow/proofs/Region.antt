@@ -1,4 +1,5 @@
--- The derivation that a region is free of faults and what it costs, and that a trace without a fault gives one. Assumes nothing.
+-- The derivation that a region is free of faults and what it costs, and that a trace without a fault gives
+-- one. Assumes nothing.
 use mathlib.Core.Path.{◌≡◌, refl, ◌∙◌}
 use mathlib.Core.Bool.{Bool, true, false, ◌&&◌}
 use mathlib.Core.List.{List, [], ◌∷◌, ◌++◌}
@@ -53,7 +54,8 @@ module _ (C : Code) where
 -- g is the cost of a word
 module _ (C : Code) (R : Rules) (g : ℕ → ℕ) where
   mutual
-    -- from its own word p on, the region that ends at E is free of faults and costs at most k. `c` is whether it may close: main does not, its last own word is END
+    -- from its own word p on, the region that ends at E is free of faults and costs at most k. `c` is whether
+    -- it may close: main does not, its last own word is END
     pub data Region : Bool → Opens → ℕ → ℕ → ℕ → Type 0 where
       shut : {c : Bool} {x : Opens} {p E k : ℕ} → c ≡ true → p ≡ E → Region c x p E k
       stop : {c : Bool} {x : Opens} {p E k : ℕ} → p < C.words → p + 1 ≡ E → C.control p ≡ End → g p ≤ k → Region c x p E k
@@ -65,11 +67,11 @@ module _ (C : Code) (R : Rules) (g : ℕ → ℕ) where
       emit_p : {x : Opens} {p E a : ℕ} → Parts x p E Emit a
       end_p : {x : Opens} {p E a : ℕ} → Parts x p E End a
       break_p : {x : Opens} {p E a : ℕ} {c : Condition} → x.looped ≡ true → Parts x p E (Break c) a
-      if_p : {x : Opens} {p E num a k₁ k₂ : ℕ} {c : Condition} {d : WordAddress} → x.ifs < R.ifs
+      if_p : {x : Opens} {p E num a k₁ k₂ : ℕ} {c : Condition} {d : WordAddress} → x.depths.ifs < R.ifs
           → Region true (in_if x) (p + 1) d.0 k₁ → Region true (in_if x) d.0 (d.0 + num) k₂ → k₁ + k₂ ≤ a → Parts x p E (If c d num) a
-      loop_p : {x : Opens} {p E r a k : ℕ} {d : WordAddress} → p < d.0 → x.loops < R.loops
+      loop_p : {x : Opens} {p E r a k : ℕ} {d : WordAddress} → p < d.0 → x.depths.loops < R.loops
           → Region true (in_loop x) (p + 1) (d.0 + 1) k → R.turns r * k ≤ a → Parts x p E (Loop r d) a
-      call_p : {x : Opens} {p E num a k : ℕ} {c : Condition} {d : WordAddress} → x.calls < R.calls
+      call_p : {x : Opens} {p E num a k : ℕ} {c : Condition} {d : WordAddress} → x.depths.calls < R.calls
           → Region true (in_call x) d.0 (d.0 + num) k → k ≤ a → Parts x p E (Call c d num) a
       jump_p : {x : Opens} {p E num a : ℕ} {c : Condition} {d : WordAddress} → Own C (p + 1) E d.0 → Parts x p E (Jump c d num) a
 
@@ -138,15 +140,15 @@ module _ (C : Code) (R : Rules) (g : ℕ → ℕ) where
         let f = followed (rec (in_if x) w (p + 1) d.0) (rec (in_if x) w d.0 (d.0 + num)) e in
         let c₁ = h (in_if x) w (p + 1) d.0 (omega arith) (omega arith) f.first in
         let c₂ = h (in_if x) w d.0 (d.0 + num) (omega arith) (omega arith) f.second in
-        record { a = c₁.k + c₂.k; derived = if_p {a = c₁.k + c₂.k} {k₁ = c₁.k} {k₂ = c₂.k} (leb-false R.ifs x.ifs o.room) c₁.derived c₂.derived (omega arith); adds = omega (arith, f.adds, c₁.adds, c₂.adds) }
+        record { a = c₁.k + c₂.k; derived = if_p {a = c₁.k + c₂.k} {k₁ = c₁.k} {k₂ = c₂.k} (leb-false R.ifs x.depths.ifs o.room) c₁.derived c₂.derived (omega arith); adds = omega (arith, f.adds, c₁.adds, c₂.adds) }
     parts_sound (Loop r d) z o e =
         let b = loop_bounds C R r d p E o.bounds in
         let c₁ = h (in_loop x) (w * R.turns r) (p + 1) (d.0 + 1) (omega arith) (omega arith) e in
-        record { a = R.turns r * c₁.k; derived = loop_p {r = r} {a = R.turns r * c₁.k} {k = c₁.k} b.0 (leb-false R.loops x.loops o.room) c₁.derived (omega arith); adds = omega (arith, c₁.adds) }
+        record { a = R.turns r * c₁.k; derived = loop_p {r = r} {a = R.turns r * c₁.k} {k = c₁.k} b.0 (leb-false R.loops x.depths.loops o.room) c₁.derived (omega arith); adds = omega (arith, c₁.adds) }
     parts_sound (Call c d num) z o e =
         let b = call_bounds C R c d num p E o.bounds in
         let c₁ = h (in_call x) w d.0 (d.0 + num) (omega arith) b.1 e in
-        record { a = c₁.k; derived = call_p {a = c₁.k} {k = c₁.k} (leb-false R.calls x.calls o.room) c₁.derived (omega arith); adds = c₁.adds }
+        record { a = c₁.k; derived = call_p {a = c₁.k} {k = c₁.k} (leb-false R.calls x.depths.calls o.room) c₁.derived (omega arith); adds = c₁.adds }
     parts_sound (Jump c d num) z o e =
         let own = (both (ltb d.0 E) _ (both (ltb p d.0) _ (not_bad _ o.jumps)).1).1 in
         record { a = 0; derived = jump_p (is_own C (p + 1) E d.0 own); adds = omega arith }
@@ -199,7 +201,8 @@ module _ (C : Code) (R : Rules) (g : ℕ → ℕ) where
     end_of (Call c d n) e = absurd (false_not_true e)
     end_of (Jump c d n) e = absurd (false_not_true e)
 
-    -- main, if its trace meets no fault and 28 does not apply: it never closes, and costs what its visits weigh
+    -- main, if its trace meets no fault and 28 does not apply: it never closes, and costs what its visits
+    -- weigh
     pub main_sound : (m E : ℕ) → m < E → E ≤ C.words → (main_trace C R m E).stopped ≡ false
         → (is_end (C.control (E - 1)) && has (own_words C m E) (E - 1)) ≡ true → Region false none_open m E (weighted g (main_trace C R m E).visits)
     unfolding main_trace trace

@@ -8,7 +8,11 @@ use native.Mathlib.Omega.{arith}
 use lib.Dec.{leb, eqb}
 use lib.ListN.{get_or, set, replicate, length-set, length-replicate}
 use lib.Seq.{get_or-set_same, get_or-set_other}
-use borrow.Author.Tests.{leb-true, ltb-true, eqb-true, eqb-false}
+use borrow.Author.Tests.{leb-true, eqb-true, eqb-false}
+use Rattle.std.proofs.lemmas.Option.{none-some, same_Some}
+use Rattle.std.specs.Bool.{then_some}
+use Rattle.std.specs.Option.{is_some}
+use Rattle.std.specs.Prelude.{Some}
 use Rattle.answer.specs.Answers.{given}
 use Rattle.answer.specs.Faults.{Fault}
 use Rattle.answer.specs.Faults.{Nothing, At}
@@ -16,26 +20,36 @@ use Rattle.binary.specs.Addresses.{word_address}
 use Rattle.binary.specs.declared.WordAddress.{WordAddress}
 use Rattle.instruction.specs.declared.flow_control.Control.{Control}
 use Rattle.instruction.specs.declared.flow_control.Control.TheVariants.{Unknown, Plain, Emit, End, Break, If, Loop, Call, Jump}
-use Rattle.flow.specs.Inside.{unless, part_of, parts_of, look_of, scanned, scan_of, beyond, Room, Covers, Passes, PassesBoth, Left, LeftBoth, after_part, scan_both, deepest, opened, Asks, AsksBoth, Recalled, packed, unpacked, deep_at, Memory, fits_here}
+use Rattle.flow.specs.Inside.{unless, part_of, parts_of, look_of, scanned, scan_of, beyond, Room, Covers, Passes, PassesBoth, Left, LeftBoth, after_part, scan_both, deepest, opened, Asks, AsksBoth, Recalled, packed, unpacked, cost_at, Memory, fits_here}
 use Rattle.flow.specs.Rules.{Code, Rules, in_if, in_loop, in_call}
 use Rattle.flow.specs.Visits.{bad24, fault_at}
 use Rattle.flow.specs.declared.look.Look.TheVariants.{Next, One, Two}
 use Rattle.flow.specs.declared.look.Opens.{Opens}
 use Rattle.flow.specs.declared.look.Part.{Part}
-use Rattle.flow.specs.declared.scan.Deep.{Deep}
+use Rattle.flow.specs.declared.depths.Depths.{Depths}
+use Rattle.flow.specs.declared.scan.Cost.{Cost}
 use Rattle.flow.proofs.Again.{jump_reaches}
 use Rattle.flow.proofs.Depth.{Passed, fault_none}
 use Rattle.flow.proofs.Passing.{covers_self, covers_trans, under_both}
 use Rattle.flow.proofs.Replay.{both_go}
-use Rattle.flow.proofs.Tests.{apart, both, not_bad}
+use Rattle.flow.proofs.Tests.{apart, both, not_bad, false_not_true}
 
 -- what is packed is found again
-unpacked_packed : (d : Deep) → d.ifs < 256 → d.loops < 256 → unpacked (packed d) ≡ d
+unpacked_packed : (d : Depths) → d.ifs < 256 → d.loops < 256 → unpacked (packed d) ≡ d
 unpacked_packed d h g =
     let calls : packed d / 65536 ≡ d.calls = omega arith in
     let ifs : packed d / 256 % 256 ≡ d.ifs = omega arith in
     let loops : packed d % 256 ≡ d.loops = omega arith in
     rw (calls, ifs, loops)
+
+-- a value that stands under a test
+pub some_if : {A : Type 0} (b : Bool) (x y : A) → then_some b x ≡ Some y → (b ≡ true) × (x ≡ y)
+some_if true x y e = (refl, same_Some x y e)
+some_if false x y e = absurd (none-some y e)
+
+some_known : {A : Type 0} (b : Bool) (x : A) → is_some (then_some b x) ≡ true → then_some b x ≡ Some x
+some_known true x e = refl
+some_known false x e = absurd (false_not_true e)
 
 module _ (C : Code) (R : Rules) where
   -- the part that a word asks for
@@ -83,7 +97,7 @@ module _ (C : Code) (R : Rules) where
       by Nothing z g = on (C.control p) (fault_none C R x p E z).bounds g
 
   -- a word that went on: of a jump, that its target is good
-  next_recalled : (x : Opens) (w p E k : ℕ) (d : Deep) (m : List Bool) → given Next ≡ look_of C R x w p E → Recalled C R m (C.control p) p k d
+  next_recalled : (x : Opens) (w p E k : ℕ) (d : Depths) (m : List Bool) → given Next ≡ look_of C R x w p E → Recalled C R m (C.control p) p k d
   unfolding look_of
   next_recalled x w p E k d m e = by (fault_at C R x p E) refl e
     where
@@ -103,7 +117,7 @@ module _ (C : Code) (R : Rules) where
       by Nothing f g = on (C.control p) (fault_none C R x p E f) g
 
   -- what is remembered of it is that it is passed
-  recalled_passes : (i : Control) (p : ℕ) (r : Part) (k : ℕ) (d : Deep) (m : List Bool) → Asks i p r → Recalled C R m i p k d → Passes C R r.opens.looped r.from.0 r.to.0 k d m
+  recalled_passes : (i : Control) (p : ℕ) (r : Part) (k : ℕ) (d : Depths) (m : List Bool) → Asks i p r → Recalled C R m i p k d → Passes C R r.opens.looped r.from.0 r.to.0 k d m
   recalled_passes Unknown p r k d m h q = absurd h
   recalled_passes Plain p r k d m h q = absurd h
   recalled_passes Emit p r k d m h q = absurd h
@@ -114,7 +128,7 @@ module _ (C : Code) (R : Rules) where
   recalled_passes (Call c dst num) p r k d m h q = rw (h.0, h.1, h.2) q
   recalled_passes (Jump c dst num) p r k d m h q = absurd h
 
-  passes_recalled : (i : Control) (p : ℕ) (r : Part) (k : ℕ) (d : Deep) (m : List Bool) → Asks i p r → Passes C R r.opens.looped r.from.0 r.to.0 k d m → Recalled C R m i p k d
+  passes_recalled : (i : Control) (p : ℕ) (r : Part) (k : ℕ) (d : Depths) (m : List Bool) → Asks i p r → Passes C R r.opens.looped r.from.0 r.to.0 k d m → Recalled C R m i p k d
   passes_recalled Unknown p r k d m h q = absurd h
   passes_recalled Plain p r k d m h q = absurd h
   passes_recalled Emit p r k d m h q = absurd h
@@ -126,7 +140,7 @@ module _ (C : Code) (R : Rules) where
   passes_recalled (Jump c dst num) p r k d m h q = absurd h
 
   -- with no LOOP open in the same main or called region, what is remembered of an IF is that both are passed
-  module _ {i : Control} {p : ℕ} {r : Part} {next : WordAddress} (h : AsksBoth i p r next) (k : ℕ) (d : Deep) (m : List Bool) where
+  module _ {i : Control} {p : ℕ} {r : Part} {next : WordAddress} (h : AsksBoth i p r next) (k : ℕ) (d : Depths) (m : List Bool) where
     recalled_both : Recalled C R m i p k d → PassesBoth C R false r.from.0 r.to.0 next.0 k d m
     recalled_both q = rw (h.end, h.to, h.from) (rw h.is at q)
 
@@ -134,10 +148,10 @@ module _ (C : Code) (R : Rules) where
     both_recalled q = rw h.is (rw (h.end, h.to, h.from) at q)
 
   -- more marks
-  passes_grow : {b : Bool} {p E k : ℕ} {d : Deep} {m m' : List Bool} → Covers m m' → Passes C R b p E k d m → Passes C R b p E k d m'
+  passes_grow : {b : Bool} {p E k : ℕ} {d : Depths} {m m' : List Bool} → Covers m m' → Passes C R b p E k d m → Passes C R b p E k d m'
   passes_grow g q = record { again = λ x w t m'' same room fits c. q.again x w t m'' same room fits (covers_trans g c) }
 
-  recalled_grows : (i : Control) (p k : ℕ) (d : Deep) {m m' : List Bool} → Covers m m' → Recalled C R m i p k d → Recalled C R m' i p k d
+  recalled_grows : (i : Control) (p k : ℕ) (d : Depths) {m m' : List Bool} → Covers m m' → Recalled C R m i p k d → Recalled C R m' i p k d
   recalled_grows Unknown p k d g q = tt
   recalled_grows Plain p k d g q = tt
   recalled_grows Emit p k d g q = tt
@@ -149,11 +163,11 @@ module _ (C : Code) (R : Rules) where
   recalled_grows (Jump c dst num) p k d g q = q
 
   pub memory_grows : {m m' : List Bool} {costs depths : List ℕ} → Covers m m' → Memory C R m costs depths → Memory C R m' costs depths
-  memory_grows {costs = costs} {depths = depths} g y =
+  memory_grows g y =
       record {
         costs_long = y.costs_long;
         depths_long = y.depths_long;
-        recalls = λ p h. recalled_grows (C.control p) p (get_or costs p 0) (deep_at depths p) g (y.recalls p h);
+        recalls = λ p c h. recalled_grows (C.control p) p c.visits c.depths g (y.recalls p c h);
       }
 
   pub memory_none : (m : List Bool) → Memory C R m (replicate 512 0) (replicate 512 0)
@@ -161,7 +175,7 @@ module _ (C : Code) (R : Rules) where
       record {
         costs_long = length-replicate {A = ℕ} 512 0;
         depths_long = length-replicate {A = ℕ} 512 0;
-        recalls = λ p h. absurd (omega (arith, nothing 512 p));
+        recalls = λ p c h. absurd (none-some c (rw (nothing 512 p) at h));
       }
     where
       nothing : (n p : ℕ) → ◌≡◌ {A = ℕ} (get_or (replicate n 0) p 0) 0
@@ -170,93 +184,86 @@ module _ (C : Code) (R : Rules) where
       nothing (suc n) (suc p) = nothing n p
 
   -- one region more
-  module _ {m : List Bool} {costs depths : List ℕ} (y : Memory C R m costs depths) (p k : ℕ) (d : Deep) (h : p < 512) (small : (d.calls < 256) × (d.ifs < 256) × (d.loops < 256)) (q : Recalled C R m (C.control p) p k d) where
+  module _ {m : List Bool} {costs depths : List ℕ} (y : Memory C R m costs depths) (p k : ℕ) (d : Depths) (h : p < 512) (small : (d.calls < 256) × (d.ifs < 256) × (d.loops < 256)) (q : Recalled C R m (C.control p) p k d) where
     pub memory_more : Memory C R m (set costs p k) (set depths p (packed d))
     memory_more =
         record {
           costs_long = length-set costs p k ∙ y.costs_long;
           depths_long = length-set depths p (packed d) ∙ y.depths_long;
-          recalls = λ z g. by z g (eqb z p) refl;
+          recalls = λ z c g. by z c g (eqb z p) refl;
         }
       where
-        by : (z : ℕ) → 1 ≤ get_or (set costs p k) z 0 → (b : Bool) → eqb z p ≡ b → Recalled C R m (C.control z) z (get_or (set costs p k) z 0) (deep_at (set depths p (packed d)) z)
-        by z g true e =
-            rw (eqb-true z p e, get_or-set_same costs p k 0 (omega (arith, y.costs_long)), get_or-set_same depths p (packed d) 0 (omega (arith, y.depths_long)), unpacked_packed d small.1 small.2) q
-        by z g false e =
+        by : (z : ℕ) (c : Cost) → cost_at (set costs p k) (set depths p (packed d)) z ≡ Some c → (b : Bool) → eqb z p ≡ b → Recalled C R m (C.control z) z c.visits c.depths
+        by z c g true e =
+            let g' = rw (eqb-true z p e, get_or-set_same costs p k 0 (omega (arith, y.costs_long)), get_or-set_same depths p (packed d) 0 (omega (arith, y.depths_long)), unpacked_packed d small.1 small.2) at g in
+            let same = (some_if _ _ c g').1 in
+            rw (eqb-true z p e, ← same) q
+        by z c g false e =
             let o = eqb-false z p e in
-            let c = get_or-set_other costs p z k 0 o in
-            rw (c, get_or-set_other depths p z (packed d) 0 o) (y.recalls z (rw c at g))
+            y.recalls z c (rw (get_or-set_other costs p z k 0 o, get_or-set_other depths p z (packed d) 0 o) at g)
 
   -- .. of a word without parts
-  pub memory_next : {m : List Bool} {costs depths : List ℕ} → Memory C R m costs depths → (x : Opens) (w p E : ℕ) → p < 512 → given Next ≡ look_of C R x w p E
-      → Memory C R m (set costs p 1) depths
-  memory_next {m} {costs} {depths} y x w p E l e =
-      record {
-        costs_long = length-set costs p 1 ∙ y.costs_long;
-        depths_long = y.depths_long;
-        recalls = λ z g. by z g (eqb z p) refl;
-      }
-    where
-      by : (z : ℕ) → 1 ≤ get_or (set costs p 1) z 0 → (b : Bool) → eqb z p ≡ b → Recalled C R m (C.control z) z (get_or (set costs p 1) z 0) (deep_at depths z)
-      by z g true f = let same = eqb-true z p f in rw same (next_recalled x w p E (get_or (set costs p 1) p 0) (deep_at depths p) m e)
-      by z g false f = let c = get_or-set_other costs p z 1 0 (eqb-false z p f) in rw c (y.recalls z (rw c at g))
+  pub memory_next : {m : List Bool} {costs depths : List ℕ} → Memory C R m costs depths → (x : Opens) (w p E : ℕ) (c : Cost) → p < 512 → (c.depths.calls < 256) × (c.depths.ifs < 256) × (c.depths.loops < 256) → given Next ≡ look_of C R x w p E
+      → Memory C R m (set costs p c.visits) (set depths p (packed c.depths))
+  memory_next {m} y x w p E c l small e = memory_more y p c.visits c.depths l small (next_recalled x w p E c.visits c.depths m e)
+
+  -- .. is found again
+  pub known_recalled : {m : List Bool} {costs depths : List ℕ} → Memory C R m costs depths → (p : ℕ) → is_some (cost_at costs depths p) ≡ true → Recalled C R m (C.control p) p (get_or costs p 0) (unpacked (get_or depths p 0))
+  known_recalled y p e = y.recalls p _ (some_known _ _ e)
 
   -- what is opened beyond what is open
-  opened_passes : {b : Bool} {p E k : ℕ} (y : Opens) {d : Deep} {m : List Bool} → Passes C R b p E k d m → Passes C R b p E k (beyond (opened y d) y) m
+  opened_passes : {b : Bool} {p E k : ℕ} (y : Depths) {d : Depths} {m : List Bool} → Passes C R b p E k d m → Passes C R b p E k (beyond (opened y d) y) m
   opened_passes y q = record { again = λ x w u m' same room fits c. q.again x w u m' same (omega (arith, room), omega (arith, room), omega (arith, room)) fits c }
 
   -- a part that fits again
-  module _ (r : Part) (t k : ℕ) (d : Deep) (m : List Bool) where
+  module _ (r : Part) (t : ℕ) (c : Cost) (m : List Bool) where
     pub record Again : Type 0 where
-      pub known : 1 ≤ k
-      pub room : Room R r.opens d
-      pub fits : t + r.weight * k ≤ R.most
+      pub room : Room R r.opens.depths c.depths
+      pub fits : t + r.weight * c.visits ≤ R.most
 
-    pub fits_known : fits_here R r t k d ≡ true → Again
+    pub fits_known : fits_here R r t c ≡ true → Again
     unfolding fits_here
     fits_known e =
         let (e₁, f) = both _ _ e in
         let (e₂, l) = both _ _ e₁ in
-        let (e₃, i) = both _ _ e₂ in
-        let (n, c) = both _ _ e₃ in
+        let (o, i) = both _ _ e₂ in
         record {
-          known = ltb-true 0 k n;
-          room = (leb-true _ _ c, leb-true _ _ i, leb-true _ _ l);
+          room = (leb-true _ _ o, leb-true _ _ i, leb-true _ _ l);
           fits = leb-true _ _ f;
         }
 
-    module _ (i : Control) (p : ℕ) (h : Asks i p r) (q : Recalled C R m i p k d) (g : Again) where
-      pub recalled_flow : scanned (given (t + r.weight * k)) m ≡ scan_of C R r t m
-      recalled_flow = sym ((recalled_passes i p r k d m h q).again r.opens r.weight t m refl g.room g.fits (covers_self m))
+    module _ (i : Control) (p : ℕ) (h : Asks i p r) (q : Recalled C R m i p c.visits c.depths) (g : Again) where
+      pub recalled_flow : scanned (given (t + r.weight * c.visits)) m ≡ scan_of C R r t m
+      recalled_flow = sym ((recalled_passes i p r c.visits c.depths m h q).again r.opens r.weight t m refl g.room g.fits (covers_self m))
 
-      pub recalled_left : Left C R r t (t + r.weight * k) (opened r.opens d) m
+      pub recalled_left : Left C R r t (t + r.weight * c.visits) (opened r.opens.depths c.depths) m
       recalled_left =
           record {
-            cost = k;
+            cost = c.visits;
             adds = refl;
             over = (omega arith, omega arith, omega arith);
             under = g.room;
-            passes = opened_passes r.opens (recalled_passes i p r k d m h q);
+            passes = opened_passes r.opens.depths (recalled_passes i p r c.visits c.depths m h q);
           }
 
     -- .. and two, of an IF
-    module _ (i : Control) (p : ℕ) (next : WordAddress) (h : AsksBoth i p r next) (b : r.opens.looped ≡ false) (q : Recalled C R m i p k d) (g : Again) where
-      passed : PassesBoth C R r.opens.looped r.from.0 r.to.0 next.0 k d m
-      passed = rw b (recalled_both h k d m q)
+    module _ (i : Control) (p : ℕ) (next : WordAddress) (h : AsksBoth i p r next) (b : r.opens.looped ≡ false) (q : Recalled C R m i p c.visits c.depths) (g : Again) where
+      passed : PassesBoth C R r.opens.looped r.from.0 r.to.0 next.0 c.visits c.depths m
+      passed = rw b (recalled_both h c.visits c.depths m q)
 
-      sums : t + r.weight * passed.first + r.weight * passed.second ≡ t + r.weight * k
+      sums : t + r.weight * passed.first + r.weight * passed.second ≡ t + r.weight * c.visits
       sums = omega (arith, ap (λ y. r.weight * y) passed.sum)
 
-      pub recalled_both_flow : scanned (given (t + r.weight * k)) m ≡ scan_both C R r next t m
+      pub recalled_both_flow : scanned (given (t + r.weight * c.visits)) m ≡ scan_both C R r next t m
       recalled_both_flow =
           let first = passed.before.again r.opens r.weight t m refl g.room (omega (arith, g.fits, sums)) (covers_self m) in
           let second = passed.after.again r.opens r.weight (t + r.weight * passed.first) m refl g.room (omega (arith, g.fits, sums)) (covers_self m) in
           rw (← sums) (both_go C R r next t m (sym first) refl (sym second))
 
-      pub recalled_both_left : LeftBoth C R r next t (t + r.weight * k) (opened r.opens d) m
+      pub recalled_both_left : LeftBoth C R r next t (t + r.weight * c.visits) (opened r.opens.depths c.depths) m
       recalled_both_left =
           record {
-            cost = k;
+            cost = c.visits;
             adds = refl;
             over = (omega arith, omega arith, omega arith);
             under = g.room;
@@ -264,14 +271,14 @@ module _ (C : Code) (R : Rules) where
               first = passed.first;
               second = passed.second;
               sum = passed.sum;
-              before = opened_passes r.opens passed.before;
-              after = opened_passes r.opens passed.after;
+              before = opened_passes r.opens.depths passed.before;
+              after = opened_passes r.opens.depths passed.after;
             };
           }
 
   -- what was found is remembered
-  pub remembered : (i : Control) (p : ℕ) (r : Part) {t t₁ : ℕ} {d : Deep} {m : List Bool} → Asks i p r → (l : Left C R r t t₁ d m) → Recalled C R m i p l.cost (beyond d r.opens)
-  remembered i p r {d = d} {m = m} h l = passes_recalled i p r l.cost (beyond d r.opens) m h l.passes
+  pub remembered : (i : Control) (p : ℕ) (r : Part) {t t₁ : ℕ} {d : Depths} {m : List Bool} → Asks i p r → (l : Left C R r t t₁ d m) → Recalled C R m i p l.cost (beyond d r.opens.depths)
+  remembered i p r {d = d} {m = m} h l = passes_recalled i p r l.cost (beyond d r.opens.depths) m h l.passes
 
   pub cost_is : (w t : ℕ) {t₁ : ℕ} (k : ℕ) → 1 ≤ w → t₁ ≡ t + w * k → (t₁ - t) / w ≡ k
   cost_is w t {t₁} k h adds =
@@ -279,11 +286,11 @@ module _ (C : Code) (R : Rules) where
       rw e (mul-div_cancel_left k h)
 
   -- two parts that were passed, one after the other
-  deeper_passes : {b : Bool} {p E k : ℕ} {m : List Bool} (y : Opens) (d e : Deep) → (d.calls ≤ e.calls) × (d.ifs ≤ e.ifs) × (d.loops ≤ e.loops) → Passes C R b p E k (beyond d y) m → Passes C R b p E k (beyond e y) m
+  deeper_passes : {b : Bool} {p E k : ℕ} {m : List Bool} (y : Depths) (d e : Depths) → (d.calls ≤ e.calls) × (d.ifs ≤ e.ifs) × (d.loops ≤ e.loops) → Passes C R b p E k (beyond d y) m → Passes C R b p E k (beyond e y) m
   deeper_passes y d e l q = record { again = λ x w u m' same room fits c. q.again x w u m' same (omega (arith, l, room), omega (arith, l, room), omega (arith, l, room)) fits c }
 
-  module _ (r : Part) (next : WordAddress) {t t₁ t₂ : ℕ} {d₁ d₂ : Deep} {m₁ m₂ : List Bool} (f : Left C R r t t₁ d₁ m₁) (f' : Left C R (after_part r next) t₁ t₂ d₂ m₂) (g : Covers m₁ m₂) where
-    abbrev e : Deep
+  module _ (r : Part) (next : WordAddress) {t t₁ t₂ : ℕ} {d₁ d₂ : Depths} {m₁ m₂ : List Bool} (f : Left C R r t t₁ d₁ m₁) (f' : Left C R (after_part r next) t₁ t₂ d₂ m₂) (g : Covers m₁ m₂) where
+    abbrev e : Depths
     e = deepest d₁ d₂
 
     pub both_left : LeftBoth C R r next t t₂ e m₂
@@ -297,11 +304,11 @@ module _ (C : Code) (R : Rules) where
             first = f.cost;
             second = f'.cost;
             sum = refl;
-            before = passes_grow g (deeper_passes r.opens d₁ e (le-max_left d₁.calls d₂.calls, le-max_left d₁.ifs d₂.ifs, le-max_left d₁.loops d₂.loops) f.passes);
-            after = deeper_passes r.opens d₂ e (le-max_right d₁.calls d₂.calls, le-max_right d₁.ifs d₂.ifs, le-max_right d₁.loops d₂.loops) f'.passes;
+            before = passes_grow g (deeper_passes r.opens.depths d₁ e (le-max_left d₁.calls d₂.calls, le-max_left d₁.ifs d₂.ifs, le-max_left d₁.loops d₂.loops) f.passes);
+            after = deeper_passes r.opens.depths d₂ e (le-max_right d₁.calls d₂.calls, le-max_right d₁.ifs d₂.ifs, le-max_right d₁.loops d₂.loops) f'.passes;
           };
         }
 
-  pub remembered_both : (i : Control) (p : ℕ) (r : Part) (next : WordAddress) {t t₁ : ℕ} {d : Deep} {m : List Bool} → AsksBoth i p r next → r.opens.looped ≡ false → (l : LeftBoth C R r next t t₁ d m)
-      → Recalled C R m i p l.cost (beyond d r.opens)
-  remembered_both i p r next {d = d} {m = m} h b l = both_recalled h l.cost (beyond d r.opens) m (rw b at l.passes)
+  pub remembered_both : (i : Control) (p : ℕ) (r : Part) (next : WordAddress) {t t₁ : ℕ} {d : Depths} {m : List Bool} → AsksBoth i p r next → r.opens.looped ≡ false → (l : LeftBoth C R r next t t₁ d m)
+      → Recalled C R m i p l.cost (beyond d r.opens.depths)
+  remembered_both i p r next {d = d} {m = m} h b l = both_recalled h l.cost (beyond d r.opens.depths) m (rw b at l.passes)

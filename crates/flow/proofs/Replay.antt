@@ -1,4 +1,5 @@
--- Visits replayed one after another are what scanning a region does: by the parts of each word. Assumes nothing.
+-- Visits replayed one after another are what scanning a region does: by the parts of each word. Assumes
+-- nothing.
 use mathlib.Core.Path.{◌≡◌, refl, sym, ap, ◌∙◌}
 use mathlib.Core.Bool.{Bool, true, false, ◌||◌}
 use mathlib.Core.List.{List, [], ◌∷◌, ◌++◌}
@@ -114,7 +115,8 @@ module _ (C : Code) (R : Rules) (x : Opens) (w p E : ℕ) (t : ℕ) (m : List Bo
       (parts_told C R (trace C R) (suc (size C R x p E)) tells x w p E l h (omega arith) (C.control p) (fault_none C R x p E e))
       ∙ parts_asked (C.control p) l h e refl
 
--- a region from its word p on, with total t and marks m before it: at its end; at a word that exceeds the total; at any other, by what it asks for
+-- a region from its word p on, with total t and marks m before it: at its end; at a word that exceeds the
+-- total; at any other, by what it asks for
 module _ (C : Code) (R : Rules) (part : Part) (p t : ℕ) (m : List Bool) (h : part.to.0 ≤ C.words) where
   abbrev x : Opens
   x = part.opens

@@ -1,4 +1,5 @@
--- A trace is stopped exactly if one of its visits has a fault; so a check without a fault has a trace that is not stopped, and a total within the limit. Assumes nothing.
+-- A trace is stopped exactly if one of its visits has a fault; so a check without a fault has a trace that is
+-- not stopped, and a total within the limit. Assumes nothing.
 use mathlib.Core.Path.{◌≡◌, refl, sym, ◌∙◌}
 use mathlib.Core.Bool.{Bool, true, false, ◌&&◌, ◌||◌}
 use mathlib.Core.List.{List, [], ◌∷◌, ◌++◌}

@@ -1,4 +1,5 @@
--- Trials of the flow check and of the stepping rules, by computing from the words: P1 to P11, and the cases that go wrong most easily, as outside vectors give them. Assumes nothing.
+-- Trials of the flow check and of the stepping rules, by computing from the words: P1 to P11, and the cases
+-- that go wrong most easily, as outside vectors give them. Assumes nothing.
 use mathlib.Core.Path.{◌≡◌, refl}
 use mathlib.Core.Bool.{Bool, true, false}
 use mathlib.Core.List.{List, [], ◌∷◌, map}

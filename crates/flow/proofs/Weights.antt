@@ -1,4 +1,5 @@
--- 'Each visit adds 256 to the power of the open LOOPs to the total', where every LOOP counts the same number of turns. Assumes nothing.
+-- 'Each visit adds 256 to the power of the open LOOPs to the total', where every LOOP counts the same number
+-- of turns. Assumes nothing.
 use mathlib.Core.Path.{◌≡◌, ap, ◌∙◌}
 use mathlib.Core.Bool.{Bool, true, false}
 use mathlib.Core.List.{List, [], ◌∷◌, ◌++◌}
@@ -38,7 +39,7 @@ module _ (C : Code) (R : Rules) (b : ℕ) (same : (r : ℕ) → R.turns r ≡ b)
   -- so many LOOPs deeper, and so much heavier
   record Weighs (x : Opens) (w : ℕ) (v : Visit) : Type 0 where
     d : ℕ
-    deeper : v.opens.loops ≡ x.loops + d
+    deeper : v.opens.depths.loops ≡ x.depths.loops + d
     weighs : v.weight ≡ w * b ^ d
 
   abbrev Weighed : Tracer → Type 0
@@ -90,6 +91,6 @@ module _ (C : Code) (R : Rules) (b : ℕ) (same : (r : ℕ) → R.turns r ≡ b)
   trace_weighed (suc n) x w p E = region_weighed (trace_to C R n) (trace_weighed n) x w p E (ltb p E)
 
   -- the law
-  pub main_weights : (m E : ℕ) → Each (λ v. v.weight ≡ b ^ v.opens.loops) (main_trace C R m E).visits
+  pub main_weights : (m E : ℕ) → Each (λ v. v.weight ≡ b ^ v.opens.depths.loops) (main_trace C R m E).visits
   unfolding main_trace trace
-  main_weights m E = each_map (λ v q. let e : q.d ≡ v.opens.loops = omega (arith, q.deeper) in omega (arith, q.weighs, ap (λ (k : ℕ). b ^ k) e)) (trace_weighed _ none_open 1 m E)
+  main_weights m E = each_map (λ v q. let e : q.d ≡ v.opens.depths.loops = omega (arith, q.deeper) in omega (arith, q.weighs, ap (λ (k : ℕ). b ^ k) e)) (trace_weighed _ none_open 1 m E)

@@ -1,4 +1,5 @@
--- Demand 3, over any rules: if the words pass 9, 11 and 12 and the flow check meets no fault, the whole run stays inside the tables and the limits and ends within the total. Assumes nothing.
+-- Demand 3, over any rules: if the words pass 9, 11 and 12 and the flow check meets no fault, the whole run
+-- stays inside the tables and the limits and ends within the total. Assumes nothing.
 use mathlib.Core.Path.{◌≡◌, refl}
 use mathlib.Core.List.{List, [], ◌∷◌}
 use Prim.Native.Nat.{ℕ, ◌≤◌, ◌<◌}

@@ -29,7 +29,8 @@ measured_by Nothing vs = given (record { total = total vs; words = distinct vs }
 unfoldable pub flow_of : Rules → List ℕ → ℕ → ℕ → Answer Measured
 flow_of R ws main endmain = let C = code_of ws 0 in measured_by (flow_fault C R main endmain) (main_trace C R main endmain).visits
 
--- what the flow check relies on and no caller has to see to, with document 01's numbers, at 0. 7, of the words alone: 0 or over 512. 15: type not 0 or 1. 16: not main < endmain ≤ words
+-- what the flow check relies on and no caller has to see to, with document 01's numbers, at 0. 7, of the
+-- words alone: 0 or over 512. 15: type not 0 or 1. 16: not main < endmain ≤ words
 abbrev pub entry_fault : List ℕ → ℕ → ℕ → ℕ → Fault
 entry_fault ws type main endmain =
     or_else (fault_if (eqb (length ws) 0 || ltb 512 (length ws)) 7 0)

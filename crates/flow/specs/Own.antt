@@ -17,7 +17,8 @@ next_of (Loop r dst) p = dst.0 + 1
 next_of (Call c dst num) p = p + 1
 next_of (Jump c dst num) p = p + 1
 
--- good bounds of an IF or LOOP at p in a region that ends at E: 'IF unless DST ≥ p+2 and DST+NUM ≤ E; LOOP unless p+1 ≤ DST < E'
+-- good bounds of an IF or LOOP at p in a region that ends at E: 'IF unless DST ≥ p+2 and DST+NUM ≤ E; LOOP
+-- unless p+1 ≤ DST < E'
 abbrev pub spans : Control → ℕ → ℕ → Bool
 spans Unknown p E = true
 spans Plain p E = true
@@ -30,7 +31,8 @@ spans (Call c dst num) p E = true
 spans (Jump c dst num) p E = true
 
 module _ (C : Code) where
-  -- the own words from p on, 'up to the region's end. It stops at an IF or LOOP with bad bounds, the last own word then'; each is further on, so E - p are enough
+  -- the own words from p on, 'up to the region's end. It stops at an IF or LOOP with bad bounds, the last own
+  -- word then'; each is further on, so E - p are enough
   unfoldable pub own_from : ℕ → ℕ → ℕ → List ℕ
   own_from zero p E = []
   own_from (suc n) p E =

@@ -1,4 +1,5 @@
--- The stepping rules (document 01, 'Stepping rules'), as a machine of their own: an address, the open regions, the outcomes read.
+-- The stepping rules (document 01, 'Stepping rules'), as a machine of their own: an address, the open
+-- regions, the outcomes read.
 -- Assumes nothing.
 use Rattle.std.specs.Prelude.{ℕ, zero, suc, ◌+◌, Bool, true, false, ◌&&◌, List, [], ◌∷◌, leb, ltb, eqb, get_or}
 use Rattle.instruction.specs.declared.flow_control.Condition.{Condition}
@@ -13,7 +14,8 @@ pub record Settings : Type 0 where
   pub ints : ℕ → ℕ
   pub truths : List Bool
 
--- an open region: main with its end; an IF's part with its end and where it goes on; a LOOP's body with its end, its first word and the turns left after this one; a called region with its end and where it goes on
+-- an open region: main with its end; an IF's part with its end and where it goes on; a LOOP's body with its
+-- end, its first word and the turns left after this one; a called region with its end and where it goes on
 pub data Open : Type 0 where
   main : ℕ → Open
   part : ℕ → ℕ → Open
@@ -35,7 +37,8 @@ pub data Next : Type 0 where
   stuck : Next
   goes : State → Next
 
--- arriving at p: 'Only the innermost open region's end counts; when it closes, the next is looked at'. A LOOP with turns left begins again; an empty body closes at once, in every turn
+-- arriving at p: 'Only the innermost open region's end counts; when it closes, the next is looked at'. A LOOP
+-- with turns left begins again; an empty body closes at once, in every turn
 unfoldable pub arrive : ℕ → List Open → ℕ → State
 arrive n [] p = state p [] n
 arrive n (main e ∷ os) p = pick (eqb p e) (state p [] n) (state p (main e ∷ os) n)
@@ -55,7 +58,8 @@ break n (part e q ∷ os) = break n os
 break n (body e s k ∷ os) = goes (arrive n os e)
 break n (called e q ∷ os) = break n os
 
--- the truth of a condition, with so many outcomes read; 'one byte for each such word executed, .. false past its end'
+-- the truth of a condition, with so many outcomes read; 'one byte for each such word executed, .. false past
+-- its end'
 abbrev pub holds : Settings → Condition → ℕ → Bool
 holds v Always n = true
 holds v Compared n = get_or v.truths n false
@@ -94,7 +98,8 @@ step C v s = pick (some_open s.opens && ltb s.word C.words) (execute v (C.contro
 abbrev pub start : ℕ → ℕ → State
 start m e = state m (main e ∷ []) 0
 
--- a run of so many steps at most: its states in order, and how it went on. The last state of a failed run has no next step, and is no fetch where it lies outside
+-- a run of so many steps at most: its states in order, and how it went on. The last state of a failed run has
+-- no next step, and is no fetch where it lies outside
 pub data Run : Type 0 where
   done : List State → Run
   failed : List State → Run

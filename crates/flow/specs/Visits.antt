@@ -1,4 +1,5 @@
--- The visits of the flow check, as one list in document 01's order ('The flow check', second and third paragraph), and what is read off it.
+-- The visits of the flow check, as one list in document 01's order ('The flow check', second and third
+-- paragraph), and what is read off it.
 -- Assumes nothing.
 use Rattle.std.specs.Prelude.{ℕ, zero, suc, ◌+◌, ◌*◌, ◌-◌, Bool, true, false, not, ◌&&◌, ◌||◌, List, [], ◌∷◌, ◌++◌, leb, ltb, eqb}
 use Rattle.answer.specs.Faults.{fault_if, or_else}
@@ -41,7 +42,8 @@ bad23 (Loop r dst) x = false
 bad23 (Call c dst num) x = false
 bad23 (Jump c dst num) x = false
 
--- 24: bad bounds of the word at p, in a region that ends at E; 'CALL unless NUM ≥ 1 and DST+NUM ≤ the word count'
+-- 24: bad bounds of the word at p, in a region that ends at E; 'CALL unless NUM ≥ 1 and DST+NUM ≤ the word
+-- count'
 abbrev pub bad24 : Code → Control → ℕ → ℕ → Bool
 bad24 C Unknown p E = false
 bad24 C Plain p E = false
@@ -60,9 +62,9 @@ bad25 R Plain x = false
 bad25 R Emit x = false
 bad25 R End x = false
 bad25 R (Break c) x = false
-bad25 R (If c dst num) x = leb R.ifs x.ifs
-bad25 R (Loop r dst) x = leb R.loops x.loops
-bad25 R (Call c dst num) x = leb R.calls x.calls
+bad25 R (If c dst num) x = leb R.ifs x.depths.ifs
+bad25 R (Loop r dst) x = leb R.loops x.depths.loops
+bad25 R (Call c dst num) x = leb R.calls x.depths.calls
 bad25 R (Jump c dst num) x = false
 
 -- 26: bad jump; 'good if p < DST < E and DST is in the own words counted from p+1 on'
@@ -103,7 +105,8 @@ unless_fault Nothing more = more
 abbrev pub Tracer : Type 0
 Tracer = Opens → ℕ → ℕ → ℕ → Trace
 
--- 'After an IF word it visits the true part, then the false one, after a LOOP its body, after any CALL the called region'. A LOOP's body weighs as often as its turns are counted
+-- 'After an IF word it visits the true part, then the false one, after a LOOP its body, after any CALL the
+-- called region'. A LOOP's body weighs as often as its turns are counted
 unfoldable pub parts : Rules → Tracer → Control → Opens → ℕ → ℕ → Trace
 parts R rec Unknown x w p = nothing
 parts R rec Plain x w p = nothing
@@ -148,13 +151,14 @@ module _ (C : Code) (R : Rules) where
   unfoldable pub region : Tracer → Tracer
   region rec x w p E = let here = visit rec x w p E in pick (ltb p E) here nothing
 
-  -- to a depth. One more than the size below is enough, since each part has an opening less and each own word is further on (proofs/Depth.antt): a depth never runs out
+  -- to a depth. One more than the size below is enough, since each part has an opening less and each own word
+  -- is further on (proofs/Depth.antt): a depth never runs out
   unfoldable pub trace_to : ℕ → Tracer
   trace_to zero x w p E = record { visits = []; stopped = true }
   trace_to (suc n) x w p E = region (trace_to n) x w p E
 
   unfoldable pub spare : Opens → ℕ
-  spare x = (R.calls - x.calls) + (R.ifs - x.ifs) + (R.loops - x.loops)
+  spare x = (R.calls - x.depths.calls) + (R.ifs - x.depths.ifs) + (R.loops - x.depths.loops)
 
   unfoldable pub size : Opens → ℕ → ℕ → ℕ
   size x p E = spare x * (C.words + 1) + (E - p)

@@ -1,4 +1,5 @@
--- What is claimed of a whole run (demand 3): one finite list of fetches that ends with END, each inside the tables and the limits, and no more of them than a bound.
+-- What is claimed of a whole run (demand 3): one finite list of fetches that ends with END, each inside the
+-- tables and the limits, and no more of them than a bound.
 -- Assumes nothing.
 use Rattle.std.specs.Prelude.{ℕ, ◌+◌, ◌≤◌, ◌<◌, ◌≡◌, List, [], ◌∷◌, length, Some}
 use Rattle.instruction.specs.declared.flow_control.Control.TheVariants.{Unknown, Loop}
@@ -34,7 +35,8 @@ open_loops (part e q ∷ os) = open_loops os
 open_loops (body e s k ∷ os) = open_loops os + 1
 open_loops (called e q ∷ os) = open_loops os
 
--- a fetch inside the opcode table, its descriptor inside its table, with at most so many calls, IFs and LOOPs open
+-- a fetch inside the opcode table, its descriptor inside its table, with at most so many calls, IFs and LOOPs
+-- open
 pub record Good (C : Code) (calls ifs loops : ℕ) (s : State) : Type 0 where
   pub inside : s.word < C.words
   pub described : (n : ℕ) → C.uses s.word ≡ Some n → n < C.descriptors

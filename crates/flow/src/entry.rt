@@ -7,9 +7,11 @@ ghost use Rattle.flow.specs.Own.{own_words, has};
 ghost use Rattle.flow.specs.Rules.{full_rules};
 ghost use Rattle.flow.specs.Visits.{is_end};
 
-use crate::look::{Allowed, Opens, Part};
+use crate::depths::Depths;
+use crate::limits::{Allowed, Scan};
+use crate::look::{Opens, Part};
 use crate::own::is_own;
-use crate::scan::{Kept, Scan};
+use crate::scan::Kept;
 use answer::{Reason, Refusal};
 use binary::WordAddress;
 use instruction::{Control, control_of};
@@ -43,16 +45,16 @@ fn measure(words: &[u32], emits: bool, main: u32, endmain: u32) -> Result<Measur
     ensures { answered result ≡ flow_of (full_rules emits) words.now main endmain }
 {
     let allowed = Allowed {
-        calls: 4,
-        ifs: 8,
-        loops: 2,
+        depths: Depths {
+            calls: 4,
+            ifs: 8,
+            loops: 2,
+        },
         most: 4_000_000,
         emits,
     };
     let none_open = Opens {
-        calls: 0,
-        ifs: 0,
-        loops: 0,
+        depths: Depths::NONE,
         looped: false,
     };
     let part = Part {

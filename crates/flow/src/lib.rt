@@ -3,7 +3,9 @@
 
 #![tactic(auto)]
 
+mod depths;
 mod entry;
+mod limits;
 mod look;
 mod own;
 mod scan;

@@ -4,6 +4,8 @@ ghost use Rattle.answer.specs.Answers.{answered};
 ghost use Rattle.flow.specs.Flow.{code_of};
 ghost use Rattle.flow.specs.Inside.{rules_of, look_if, look_loop, look_call, look_jump, look_of};
 
+use crate::depths::Depths;
+use crate::limits::{Allowed, Scan};
 use crate::own::{after_if, after_loop, is_own};
 use answer::{Reason, Refusal};
 use binary::WordAddress;
@@ -13,20 +15,8 @@ use instruction::{Control, control_of};
 // region.
 #[derive(Clone, Copy)]
 pub struct Opens {
-    pub calls: u32,
-    pub ifs: u32,
-    pub loops: u32,
+    pub depths: Depths,
     pub looped: bool,
-}
-
-// The most calls, IFs and LOOPs open, the most total, and whether EMIT and SETEMIT are allowed.
-#[derive(Clone, Copy)]
-pub struct Allowed {
-    pub calls: u32,
-    pub ifs: u32,
-    pub loops: u32,
-    pub most: u32,
-    pub emits: bool,
 }
 
 // A region to visit: what is open in it, what each visit adds to the total, its first word and its end.
@@ -49,15 +39,18 @@ pub enum Look {
 
 #[tactic(auto, unfolding(crate::specs::Inside::look_if))]
 fn look_if(allowed: Allowed, part: Part, p: u32, dst: u32, num: u32) -> Result<Look, Refusal>
-    requires { p < part.to.0 }
     ensures { answered result ≡ look_if (rules_of allowed) part.opens part.weight p part.to.0 dst num }
 {
     let next = after_if(p, part.to.0, dst, num).ok_or(Reason::BadBounds.at(p))?;
-    if allowed.ifs <= part.opens.ifs {
+    if allowed.depths.ifs <= part.opens.depths.ifs {
         return Err(Reason::TooDeep.at(p));
     }
+    let depths = Depths {
+        ifs: part.opens.depths.ifs + 1,
+        ..part.opens.depths
+    };
     let opens = Opens {
-        ifs: part.opens.ifs + 1,
+        depths,
         ..part.opens
     };
     let yes = Part {
@@ -71,17 +64,20 @@ fn look_if(allowed: Allowed, part: Part, p: u32, dst: u32, num: u32) -> Result<L
 
 #[tactic(auto, unfolding(crate::specs::Inside::look_loop))]
 fn look_loop(allowed: Allowed, part: Part, p: u32, dst: u32) -> Result<Look, Refusal>
-    requires { (p < part.to.0) × (part.weight ≤ 65536) }
+    requires { part.weight ≤ 65536 }
     ensures { answered result ≡ look_loop (rules_of allowed) part.opens part.weight p part.to.0 dst }
 {
     let past = after_loop(p, part.to.0, dst).ok_or(Reason::BadBounds.at(p))?;
-    if allowed.loops <= part.opens.loops {
+    if allowed.depths.loops <= part.opens.depths.loops {
         return Err(Reason::TooDeep.at(p));
     }
+    let depths = Depths {
+        loops: part.opens.depths.loops + 1,
+        ..part.opens.depths
+    };
     let opens = Opens {
-        loops: part.opens.loops + 1,
+        depths,
         looped: true,
-        ..part.opens
     };
     let body = Part {
         opens,
@@ -92,30 +88,25 @@ fn look_loop(allowed: Allowed, part: Part, p: u32, dst: u32) -> Result<Look, Ref
     Ok(Look::One(body, WordAddress(past)))
 }
 
-// `count` is the number of words.
 #[tactic(auto, unfolding(crate::specs::Inside::look_call))]
-fn look_call(
-    allowed: Allowed,
-    caller: Part,
-    p: u32,
-    count: u32,
-    dst: u32,
-    num: u32,
-) -> Result<Look, Refusal>
-    requires { p < count }
-    ensures { answered result ≡ look_call (rules_of allowed) caller.opens caller.weight p count dst num }
+fn look_call(scan: Scan, caller: Part, p: u32, dst: u32, num: u32) -> Result<Look, Refusal>
+    requires { p < length scan.words.now }
+    ensures { answered result ≡ look_call (rules_of scan.entry.allowed) caller.opens caller.weight p (length scan.entry.words.now) dst num }
 {
     let end = dst as u64 + num as u64;
-    if num < 1 || (count as u64) < end {
+    if num < 1 || (scan.words.len() as u64) < end {
         return Err(Reason::BadBounds.at(p));
     }
-    if allowed.calls <= caller.opens.calls {
+    if scan.allowed.depths.calls <= caller.opens.depths.calls {
         return Err(Reason::TooDeep.at(p));
     }
+    let depths = Depths {
+        calls: caller.opens.depths.calls + 1,
+        ..caller.opens.depths
+    };
     let opens = Opens {
-        calls: caller.opens.calls + 1,
+        depths,
         looped: false,
-        ..caller.opens
     };
     let called = Part {
         opens,
@@ -141,20 +132,19 @@ fn look_jump(words: &[u32], p: u32, end: u32, dst: u32) -> Result<Look, Refusal>
 // The word at `p` of a region, of which what is open, the weight and the end are looked at. An unknown word
 // passes: 9 is a test of the whole library.
 #[tactic(auto, unfolding(crate::specs::Inside::look_of, crate::specs::Visits::fault_at, crate::specs::Inside::look_if, crate::specs::Inside::look_loop, crate::specs::Inside::look_call, crate::specs::Inside::look_jump))]
-pub(crate) fn look_at(words: &[u32], allowed: Allowed, part: Part, p: u32) -> Result<Look, Refusal>
-    requires { (part.to.0 ≤ length words.now) × (p < part.to.0) × (part.weight ≤ 65536) × (length words.now ≤ 512) }
-    ensures { answered result ≡ look_of (code_of words.now 0) (rules_of allowed) part.opens part.weight p part.to.0 }
+pub(crate) fn look_at(scan: Scan, part: Part, p: u32) -> Result<Look, Refusal>
+    requires { (part.to.0 ≤ length scan.words.now) × (p < part.to.0) × (part.weight ≤ 65536) }
+    ensures { answered result ≡ look_of (code_of scan.entry.words.now 0) (rules_of scan.entry.allowed) part.opens part.weight p part.to.0 }
 {
-    let count = words.len() as u32;
-    match control_of(words[p as usize]) {
+    match control_of(scan.words[p as usize]) {
         Control::Unknown | Control::Plain | Control::End => Ok(Look::Next),
-        Control::Emit if allowed.emits => Ok(Look::Next),
+        Control::Emit if scan.allowed.emits => Ok(Look::Next),
         Control::Emit => Err(Reason::EmitInVertex.at(p)),
         Control::Break(_) if part.opens.looped => Ok(Look::Next),
         Control::Break(_) => Err(Reason::BreakOutsideLoop.at(p)),
-        Control::If(_, dst, num) => look_if(allowed, part, p, dst.0, num),
-        Control::Loop(_, dst) => look_loop(allowed, part, p, dst.0),
-        Control::Call(_, dst, num) => look_call(allowed, part, p, count, dst.0, num),
-        Control::Jump(_, dst, _) => look_jump(words, p, part.to.0, dst.0),
+        Control::If(_, dst, num) => look_if(scan.allowed, part, p, dst.0, num),
+        Control::Loop(_, dst) => look_loop(scan.allowed, part, p, dst.0),
+        Control::Call(_, dst, num) => look_call(scan, part, p, dst.0, num),
+        Control::Jump(_, dst, _) => look_jump(scan.words, p, part.to.0, dst.0),
     }
 }

@@ -7,28 +7,20 @@ ghost use Rattle.flow.specs.Own.{own_words, has};
 
 use instruction::{Control, control_of, is_block};
 
-// The own word after an IF; none where its bounds are bad. Sums of an address and a count are made in 64
-// bits: a word may hold any DST and NUM.
+// The own word after an IF; none where its bounds are bad. A word may hold any DST and NUM: a sum past 32
+// bits is beyond every end.
 pub(crate) fn after_if(p: u32, end: u32, dst: u32, num: u32) -> Option<u32>
     ensures { result ≡ after_if p end dst num }
 {
-    let next = dst as u64 + num as u64;
-    if p as u64 + 2 <= dst as u64 && next <= end as u64 {
-        Some(next as u32)
-    } else {
-        None
-    }
+    dst.checked_add(num)
+        .filter(|next| p as u64 + 2 <= dst as u64 && *next <= end)
 }
 
 // The same of a LOOP.
 pub(crate) fn after_loop(p: u32, end: u32, dst: u32) -> Option<u32>
     ensures { result ≡ after_loop p end dst }
 {
-    if p < dst && dst < end {
-        Some(dst + 1)
-    } else {
-        None
-    }
+    dst.checked_add(1).filter(|past| p < dst && *past <= end)
 }
 
 // The own word after another; none after an IF or LOOP with bad bounds. Not expanded where it is called, so

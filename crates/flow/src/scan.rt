@@ -1,46 +1,49 @@
 // The visits of a region, those of its parts and called regions among them.
 ghost use Rattle.std.specs.Prelude.{◌≡◌, ◌+◌, ◌*◌, ◌-◌, ◌≤◌, ◌<◌, length, get_or};
+ghost use Rattle.std.specs.Option.{is_some, option_and_then};
 ghost use Rattle.flow.specs.Flow.{code_of};
-ghost use Rattle.flow.specs.Inside.{rules_of, after_part, deep_of, deepest, beyond, Over, Room, Asks, AsksBoth, goes_on, no_tests, mark_all, recalled, remember, fits_here, passed_over, ReadyFor, ScansTo, ScansBothTo};
+ghost use Rattle.flow.specs.Inside.{rules_of, after_part, Over, Under, cost_of, Asks, AsksBoth, goes_on, no_tests, mark_all, recalled, remember, passed_over, ReadyFor, ScansTo, ScansBothTo};
 
-use crate::look::{Allowed, Look, Opens, Part, look_at};
+use crate::depths::Depths;
+use crate::limits::{Allowed, Index, Scan};
+use crate::look::{Look, Part, look_at};
 use answer::{Reason, Refusal};
 use binary::WordAddress;
-use instruction::{Control, control_of};
-
-// The words that are scanned, and what is allowed in them.
-#[derive(Clone, Copy)]
-pub struct Scan<'a> {
-    pub words: &'a [u32],
-    pub allowed: Allowed,
-}
-
-// Counts of calls, IFs and LOOPs, each the most that were open at once: those open around a region among
-// them, or, where remembered, without those.
-#[derive(Clone, Copy)]
-pub struct Deep {
-    pub calls: u32,
-    pub ifs: u32,
-    pub loops: u32,
-}
+use instruction::{Control, control_of, is_untested};
 
 // What a part that was scanned without a fault leaves: the total, and the most that was open.
 #[derive(Clone, Copy)]
 pub struct Outcome {
     pub total: u32,
-    pub deep: Deep,
+    pub depths: Depths,
 }
 
 // What a region costs wherever it is visited: how many visits, without the weight, and the most that it
-// opens, without what is open around it. Of a region of which nothing is remembered the visits are 0.
+// opens, without what is open around it.
 #[derive(Clone, Copy)]
 pub struct Cost {
     pub visits: u32,
-    pub deep: Deep,
+    pub depths: Depths,
+}
+
+impl Outcome {
+    // What a part costs that left this, with so much counted before it.
+    fn cost(self, part: Part, before: u32) -> Cost
+        requires weighs { 0 < part.weight }
+        requires more { before ≤ self.total }
+        requires over { Over self.depths part.opens.depths }
+        ensures { result ≡ cost_of part before self }
+    {
+        Cost {
+            visits: (self.total - before) / part.weight,
+            depths: self.depths.beyond(part.opens.depths),
+        }
+    }
 }
 
 // What is kept of each word of a main: whether it was visited, and the cost of the parts that it asks for.
-// The depths are packed: one array is cleared for each main, not three.
+// A cost of 0 visits stands for none. The depths of a word are packed into one number, so that one array of
+// them is cleared for each main and not three.
 #[derive(Drop)]
 pub struct Kept {
     pub marks: [bool; 512],
@@ -48,68 +51,22 @@ pub struct Kept {
     pub depths: [u32; 512],
 }
 
-fn deepest_of(a: Deep, b: Deep) -> Deep
-    ensures { result ≡ deepest a b }
+// What a region of this cost leaves without being visited: its cost in the total, and what it opens added to
+// what is open around it. None where it does not fit in here or into the total.
+#[tactic(auto, unfolding(crate::specs::Inside::fits_here))]
+fn passed_over(allowed: Allowed, part: Part, total: u32, cost: Cost) -> Option<Outcome>
+    requires { Under (rules_of allowed) part.opens.depths }
+    ensures { result ≡ passed_over (rules_of allowed) part total cost }
 {
-    Deep {
-        calls: a.calls.max(b.calls),
-        ifs: a.ifs.max(b.ifs),
-        loops: a.loops.max(b.loops),
-    }
-}
-
-fn deep_of(opens: Opens) -> Deep
-    ensures { result ≡ deep_of opens }
-{
-    Deep {
-        calls: opens.calls,
-        ifs: opens.ifs,
-        loops: opens.loops,
-    }
-}
-
-fn beyond_of(deep: Deep, opens: Opens) -> Deep
-    requires { Over deep opens }
-    ensures { result ≡ beyond deep opens }
-{
-    Deep {
-        calls: deep.calls - opens.calls,
-        ifs: deep.ifs - opens.ifs,
-        loops: deep.loops - opens.loops,
-    }
-}
-
-// Whether a region of this cost fits in here and into the total.
-fn fits_here(allowed: Allowed, part: Part, total: u32, cost: Cost) -> bool
-    requires { part.weight ≤ 65536 }
-    ensures { result ≡ fits_here (rules_of allowed) part total cost.visits cost.deep }
-{
-    let calls = part.opens.calls as u64 + cost.deep.calls as u64;
-    let ifs = part.opens.ifs as u64 + cost.deep.ifs as u64;
-    let loops = part.opens.loops as u64 + cost.deep.loops as u64;
+    let around = part.opens.depths;
     let sum = total as u64 + part.weight as u64 * cost.visits as u64;
-    (0 < cost.visits)
-        & (calls <= allowed.calls as u64)
-        & (ifs <= allowed.ifs as u64)
-        & (loops <= allowed.loops as u64)
-        & (sum <= allowed.most as u64)
-}
-
-// What a region that fits leaves without being visited: its cost in the total, and what it opens added to
-// what is open around it.
-fn passed_over(allowed: Allowed, part: Part, total: u32, cost: Cost) -> Outcome
-    requires { Room (rules_of allowed) part.opens cost.deep × (total + part.weight * cost.visits ≤ allowed.most) }
-    ensures { result ≡ passed_over part total cost.visits cost.deep }
-{
-    let around = part.opens;
-    Outcome {
-        total: total + part.weight * cost.visits,
-        deep: Deep {
-            calls: around.calls + cost.deep.calls,
-            ifs: around.ifs + cost.deep.ifs,
-            loops: around.loops + cost.deep.loops,
-        },
+    if (allowed.most as u64) < sum || !cost.depths.within(allowed.depths.beyond(around)) {
+        return None;
     }
+    Some(Outcome {
+        total: sum as u32,
+        depths: around.plus(cost.depths),
+    })
 }
 
 // The part after another, with the same open, up to `next`.
@@ -117,41 +74,22 @@ fn after_part(part: Part, next: WordAddress) -> Part
     ensures { result ≡ after_part part next }
 {
     Part {
-        opens: part.opens,
-        weight: part.weight,
-        from: WordAddress(part.to.0),
+        from: part.to,
         to: next,
-    }
-}
-
-// True where a visited word is known to go on without its tests: it has none, or it is a jump whose target
-// was found before and lies in the region. Else they are made.
-fn goes_on(control: Control, known: u32, end: u32) -> bool
-    ensures { result ≡ goes_on control known end }
-{
-    match control {
-        Control::Unknown | Control::Plain | Control::End => true,
-        Control::Jump(_, dst, _) => 0 < known && dst.0 < end,
-        _ => false,
+        ..part
     }
 }
 
 // Whether the words from `from` up to `to` have none of the tests 22 to 26: none is an EMIT, a BREAK, an IF,
-// a LOOP, a CALL or a jump. Not expanded where it is called, so that the loop of the scan keeps its
-// registers.
+// a LOOP, a CALL or a jump. Not expanded in the cycle of calls, so that its loops keep their registers.
 #[inline(never)]
 fn no_tests(words: &[u32], from: u32, to: u32) -> bool
-    requires { to ≤ length words.now }
+    requires { (from ≤ to) × (to ≤ length words.now) }
     ensures { result ≡ no_tests (code_of words.now 0) from (to - from) }
 {
-    let mut p = from;
-    while p < to {
-        if !goes_on(control_of(words[p as usize]), 0, 0) {
-            return false;
-        }
-        p += 1;
-    }
-    true
+    words[from as usize..to as usize]
+        .iter()
+        .all(|word| is_untested(*word))
 }
 
 fn mark_all(marks: &mut [bool; 512], from: u32, to: u32)
@@ -162,58 +100,75 @@ fn mark_all(marks: &mut [bool; 512], from: u32, to: u32)
 }
 
 impl Kept {
-    // The cost of the parts that the word at `p` asks for, where it is remembered.
-    fn recall(&self, p: u32) -> Cost
-        requires { p < 512 }
-        ensures { result ≡ recalled self.now p }
+    // The cost of the parts that the word asks for, where it is remembered. No part costs 0 visits.
+    fn recall(&self, at: Index) -> Option<Cost>
+        ensures { result ≡ recalled self.now at.word }
     {
-        let packed = self.depths[p as usize];
-        Cost {
-            visits: self.costs[p as usize],
-            deep: Deep {
-                calls: packed / 65536,
-                ifs: packed / 256 % 256,
-                loops: packed % 256,
-            },
+        let visits = self.costs[at.word as usize];
+        let packed = self.depths[at.word as usize];
+        let depths = Depths {
+            calls: packed / 65536,
+            ifs: packed / 256 % 256,
+            loops: packed % 256,
+        };
+        (0 < visits).then_some(Cost { visits, depths })
+    }
+
+    // Stores what was found of the parts that the word asks for.
+    fn remember(&mut self, at: Index, cost: Cost)
+        requires { (cost.depths.calls < 256) × (cost.depths.ifs < 256) × (cost.depths.loops < 256) }
+        ensures { self.new ≡ remember self.old at.word cost }
+    {
+        let depths = cost.depths;
+        self.costs[at.word as usize] = cost.visits;
+        self.depths[at.word as usize] = depths.calls * 65536 + depths.ifs * 256 + depths.loops;
+    }
+
+    // True where a visited word is known to go on without its tests: it has none, or it is a jump whose
+    // target was found before and lies in the region. Else they are made.
+    fn goes_on(&self, control: Control, at: Index, end: u32) -> bool
+        ensures { result ≡ goes_on control (is_some (recalled self.now at.word)) end }
+    {
+        match control {
+            Control::Unknown | Control::Plain | Control::End => true,
+            Control::Jump(_, dst, _) => self.recall(at).is_some() && dst.0 < end,
+            _ => false,
         }
     }
 
-    // Stores what was found of the parts that the word at `p` asks for.
-    fn remember(&mut self, p: u32, visits: u32, deep: Deep)
-        requires { (p < 512) × (deep.calls < 256) × (deep.ifs < 256) × (deep.loops < 256) }
-        ensures { self.new ≡ remember self.old p visits deep }
+    // What the parts that the word asks for leave, where their cost is remembered and fits: they are
+    // not visited again, as they would meet no fault, and their words are marked.
+    fn passed_again(&self, allowed: Allowed, at: Index, part: Part, total: u32) -> Option<Outcome>
+        requires { Under (rules_of allowed) part.opens.depths }
+        ensures { result ≡ option_and_then (passed_over (rules_of allowed) part total) (recalled self.now at.word) }
     {
-        self.costs[p as usize] = visits;
-        self.depths[p as usize] = deep.calls * 65536 + deep.ifs * 256 + deep.loops;
+        passed_over(allowed, part, total, self.recall(at)?)
     }
 
-    // Visits the part that a LOOP or a CALL at `p` asks for, and remembers what it found.
+    // Visits the part that a LOOP or a CALL asks for, and remembers what it found.
     #[cycle(regions)]
-    fn descend(&mut self, scan: Scan, p: u32, part: Part, total: u32) -> Result<Outcome, Refusal>
-        requires { ReadyFor (code_of scan.words.now 0) scan.allowed part self.old × Asks ((code_of scan.words.now 0).control p) p part × (p < 512) }
+    fn descend(&mut self, scan: Scan, at: Index, part: Part, total: u32) -> Result<Outcome, Refusal>
+        requires { ReadyFor (code_of scan.words.now 0) scan.allowed part self.old × Asks ((code_of scan.words.now 0).control at.word) at.word part }
         ensures { ScansTo (code_of scan.entry.words.now 0) (rules_of scan.entry.allowed) part total self.old result self.new }
     {
         let found = self.scan_part(scan, part, total)?;
-        let visits = (found.total - total) / part.weight;
-        self.remember(p, visits, beyond_of(found.deep, part.opens));
+        self.remember(at, found.cost(part, total));
         Ok(found)
     }
 
-    // Enters the part that a LOOP or a CALL at `p` asks for. Where what is remembered of it fits, its cost is
-    // added and it is not visited again: it would meet no fault, and its words are marked.
+    // Enters the part that a LOOP or a CALL asks for.
     #[cycle(regions)]
-    fn enter(&mut self, scan: Scan, p: u32, part: Part, total: u32) -> Result<Outcome, Refusal>
-        requires { ReadyFor (code_of scan.words.now 0) scan.allowed part self.old × Asks ((code_of scan.words.now 0).control p) p part × (p < 512) }
+    fn enter(&mut self, scan: Scan, at: Index, part: Part, total: u32) -> Result<Outcome, Refusal>
+        requires { ReadyFor (code_of scan.words.now 0) scan.allowed part self.old × Asks ((code_of scan.words.now 0).control at.word) at.word part }
         ensures { ScansTo (code_of scan.entry.words.now 0) (rules_of scan.entry.allowed) part total self.old result self.new }
     {
-        let cost = self.recall(p);
-        if fits_here(scan.allowed, part, total, cost) {
-            return Ok(passed_over(scan.allowed, part, total, cost));
+        match self.passed_again(scan.allowed, at, part, total) {
+            Some(outcome) => Ok(outcome),
+            None => self.descend(scan, at, part, total),
         }
-        self.descend(scan, p, part, total)
     }
 
-    // Visits the two parts that an IF at `p` asks for. If they have no tests they cost as many visits as they
+    // Visits the two parts that an IF asks for. If they have no tests they cost as many visits as they
     // have words, open nothing, and are counted and marked at once. Else they are scanned, and what was found
     // is remembered where no LOOP is open in the main or called region: with one around, a BREAK passes in
     // them. Nothing is lost by that: a LOOP's body is remembered whole.
@@ -221,39 +176,34 @@ impl Kept {
     fn descend_both(
         &mut self,
         scan: Scan,
-        p: u32,
+        at: Index,
         yes: Part,
         next: WordAddress,
         total: u32,
     ) -> Result<Outcome, Refusal>
-        requires { ReadyFor (code_of scan.words.now 0) scan.allowed yes self.old × (next.0 ≤ length scan.words.now) × AsksBoth ((code_of scan.words.now 0).control p) p yes next × (p < 512) }
+        requires { ReadyFor (code_of scan.words.now 0) scan.allowed yes self.old × (next.0 ≤ length scan.words.now) × AsksBoth ((code_of scan.words.now 0).control at.word) at.word yes next }
         ensures { ScansBothTo (code_of scan.entry.words.now 0) (rules_of scan.entry.allowed) yes next total self.old result self.new }
     {
         let untested = Cost {
             visits: next.0 - yes.from.0,
-            deep: Deep {
-                calls: 0,
-                ifs: 0,
-                loops: 0,
-            },
+            depths: Depths::NONE,
         };
-        if no_tests(scan.words, yes.from.0, next.0)
-            && fits_here(scan.allowed, yes, total, untested)
-        {
-            mark_all(&mut self.marks, yes.from.0, next.0);
-            return Ok(passed_over(scan.allowed, yes, total, untested));
+        if no_tests(scan.words, yes.from.0, next.0) {
+            if let Some(outcome) = passed_over(scan.allowed, yes, total, untested) {
+                mark_all(&mut self.marks, yes.from.0, next.0);
+                return Ok(outcome);
+            }
         }
         let first = self.scan_part(scan, yes, total)?;
         let second = self.scan_part(scan, after_part(yes, next), first.total)?;
-        let deep = deepest_of(first.deep, second.deep);
-        if !yes.opens.looped {
-            let visits = (second.total - total) / yes.weight;
-            self.remember(p, visits, beyond_of(deep, yes.opens));
-        }
-        Ok(Outcome {
+        let both = Outcome {
             total: second.total,
-            deep,
-        })
+            depths: first.depths.max(second.depths),
+        };
+        if !yes.opens.looped {
+            self.remember(at, both.cost(yes, total));
+        }
+        Ok(both)
     }
 
     // As `enter`, for an IF.
@@ -261,19 +211,18 @@ impl Kept {
     fn enter_both(
         &mut self,
         scan: Scan,
-        p: u32,
+        at: Index,
         yes: Part,
         next: WordAddress,
         total: u32,
     ) -> Result<Outcome, Refusal>
-        requires { ReadyFor (code_of scan.words.now 0) scan.allowed yes self.old × (next.0 ≤ length scan.words.now) × AsksBoth ((code_of scan.words.now 0).control p) p yes next × (p < 512) }
+        requires { ReadyFor (code_of scan.words.now 0) scan.allowed yes self.old × (next.0 ≤ length scan.words.now) × AsksBoth ((code_of scan.words.now 0).control at.word) at.word yes next }
         ensures { ScansBothTo (code_of scan.entry.words.now 0) (rules_of scan.entry.allowed) yes next total self.old result self.new }
     {
-        let cost = self.recall(p);
-        if !yes.opens.looped && fits_here(scan.allowed, yes, total, cost) {
-            return Ok(passed_over(scan.allowed, yes, total, cost));
+        match self.passed_again(scan.allowed, at, yes, total) {
+            Some(outcome) if !yes.opens.looped => Ok(outcome),
+            _ => self.descend_both(scan, at, yes, next, total),
         }
-        self.descend_both(scan, p, yes, next, total)
     }
 
     // Counts, marks and tests each word of a region, and goes into the parts that it asks for. `total` is
@@ -291,39 +240,44 @@ impl Kept {
         let end = part.to.0;
         let mut p = part.from.0;
         let mut t = total;
-        let mut deep = deep_of(part.opens);
+        let mut depths = part.opens.depths;
         while p < end {
             let sum = t as u64 + part.weight as u64;
             if (scan.allowed.most as u64) < sum {
                 return Err(Reason::TooLong.at(p));
             }
             t = sum as u32;
-            let at = p as usize;
-            self.marks[at] = true;
-            if goes_on(control_of(scan.words[at]), self.costs[at], end) {
+            let at = Index { word: p };
+            self.marks[p as usize] = true;
+            if self.goes_on(control_of(scan.words[p as usize]), at, end) {
                 p += 1;
                 continue;
             }
-            match look_at(scan.words, scan.allowed, part, p)? {
+            match look_at(scan, part, p)? {
                 Look::Next => {
-                    // A jump's target is known to be good from now on. Of EMIT and BREAK this is never read.
-                    self.costs[at] = 1;
+                    // A jump has no parts, and any cost says that its target is good. Of EMIT and BREAK it is
+                    // never read.
+                    let seen = Cost {
+                        visits: 1,
+                        depths: Depths::NONE,
+                    };
+                    self.remember(at, seen);
                     p += 1;
                 }
                 Look::One(inner, next) => {
-                    let found = self.enter(scan, p, inner, t)?;
-                    deep = deepest_of(deep, found.deep);
+                    let found = self.enter(scan, at, inner, t)?;
+                    depths = depths.max(found.depths);
                     t = found.total;
                     p = next.0;
                 }
                 Look::Two(yes, next) => {
-                    let found = self.enter_both(scan, p, yes, next, t)?;
-                    deep = deepest_of(deep, found.deep);
+                    let found = self.enter_both(scan, at, yes, next, t)?;
+                    depths = depths.max(found.depths);
                     t = found.total;
                     p = next.0;
                 }
             }
         }
-        Ok(Outcome { total: t, deep })
+        Ok(Outcome { total: t, depths })
     }
 }

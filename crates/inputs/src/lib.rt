@@ -2,9 +2,11 @@
 
 #![tactic(auto)]
 
-ghost use Rattle.std.specs.Prelude.{◌≡◌, ◌<◌, length, take, IfOk, OnOk, OnErr, IfSome, IsUtf8};
+ghost use Rattle.std.specs.Prelude.{◌≡◌, ℕ, ◌<◌, List, length, take, Ok, IfOk, OnOk, OnErr, IfSome, IsUtf8};
 ghost use Rattle.std.specs.Io.KnownBytes.{Consumes, IsAtEnd};
 ghost use Rattle.std.specs.Counts.{IsPrefixLen};
+ghost use Rattle.std.specs.Fn.{CalledAt};
+ghost use Rattle.std.specs.List.{FoldsTo};
 
 use std::env::{Env, FillError};
 use std::io::Read;
@@ -51,6 +53,28 @@ pub fn argument<E: Env>(env: &E, index: usize, name: &mut [u8]) -> Option<usize>
         Err(FillError::TooLong) => Some(name.len()),
         Err(FillError::NotPresent) => None,
     }
+}
+
+// Visits one argument after another, the program's own name left out, until a visit fails, and answers how
+// many there were. A proved loop has to end, and nothing says that the arguments do: so it counts its turns,
+// up to a number that no run uses up.
+pub fn each_argument<E: Env, F: FnMut(&[u8]) -> io::Result<()>>(
+    env: &E,
+    mut visit: F,
+) -> io::Result<usize>
+    requires { F.IsAlwaysCallable visit }
+    ensures { IfOk result (λ visits. (names : List (List ℕ)) × (last : F) × (length names ≡ visits) × FoldsTo (λ f name after. CalledAt F.FnMut f name (Ok tt) after) visit names last) }
+{
+    let mut name = [0u8; 4096];
+    let mut visits = 0;
+    for index in 1..usize::MAX {
+        let Some(length) = argument(env, index, &mut name) else {
+            break;
+        };
+        visit(&name[..length])?;
+        visits = index;
+    }
+    Ok(visits)
 }
 
 // Opens a file for reading. Paths are text, so no file is opened by a name that is not UTF-8.

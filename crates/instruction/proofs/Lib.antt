@@ -5,4 +5,5 @@ pub mod Packing
 pub mod RoundTrip
 pub mod Tables
 pub mod Trials
+pub mod Untested
 pub mod Uses

@@ -15,7 +15,7 @@ module _ {A : Type 0} where
   table_from f lo zero = []
   table_from f lo (suc n) = f lo ∷ table_from f (suc lo) n
 
-  same_on : (f g : ℕ → A) (lo n : ℕ) → table_from f lo n ≡ table_from g lo n → (k : ℕ) → lo ≤ k → k < lo + n → f k ≡ g k
+  pub same_on : (f g : ℕ → A) (lo n : ℕ) → table_from f lo n ≡ table_from g lo n → (k : ℕ) → lo ≤ k → k < lo + n → f k ≡ g k
   same_on f g lo zero e k h l = absurd (omega arith)
   same_on f g lo (suc n) e k h l = at (eqb k lo) refl (cc) (λ below. same_on f g (suc lo) n (ap (drop 1) e) k below (omega arith))
     where

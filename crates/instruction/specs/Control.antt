@@ -55,3 +55,10 @@ abbrev pub is_block : Control → Bool
 is_block (If c dst num) = true
 is_block (Loop r dst) = true
 is_block _ = false
+
+-- visited, it goes on at the next word whatever is open and allowed
+abbrev pub is_untested : Control → Bool
+is_untested Unknown = true
+is_untested Plain = true
+is_untested End = true
+is_untested _ = false

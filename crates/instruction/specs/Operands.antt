@@ -1,7 +1,7 @@
 -- What a word uses: 'A word uses the descriptor of its ID' (document 01, 'Stepping rules'), compare
 -- operators, and the parts of an operand descriptor (document 004).
 -- Assumes nothing.
-use Rattle.std.specs.Prelude.{ℕ, ◌+◌, Bool, true, false, ◌&&◌, List, [], ◌∷◌, ◌++◌, Option, Some, None, is_none}
+use Rattle.std.specs.Prelude.{ℕ, ◌+◌, Bool, true, false, ◌&&◌, cond, eqb, List, [], ◌∷◌, ◌++◌, reverse, Option, Some, None, is_none}
 use Rattle.bits.specs.Fields.{field}
 use Rattle.answer.specs.Answers.{Answer, given, refused}
 use Rattle.instruction.specs.Control.{control_of}
@@ -56,11 +56,8 @@ takes_any_fields w = is_free (control_of w) && is_none (descriptor_of w)
 abbrev pub source_at : ℕ → ℕ → Source
 source_at pos d =
     record {
-      negated = field pos 1 d;
-      component0 = field (pos + 7) 2 d;
-      component1 = field (pos + 5) 2 d;
-      component2 = field (pos + 3) 2 d;
-      component3 = field (pos + 1) 2 d;
+      negated = eqb (field pos 1 d) 1;
+      components = field (pos + 7) 2 d ∷ field (pos + 5) 2 d ∷ field (pos + 3) 2 d ∷ field (pos + 1) 2 d ∷ [];
     }
 
 -- the destination mask: x is 8, y 4, z 2, w 1; then the three sources
@@ -78,7 +75,7 @@ source3_of d = source_at 22 d
 
 -- all parts from bit 0 up, with bit 31, which has no meaning; and their widths
 abbrev pub source_parts : Source → List ℕ
-source_parts s = s.negated ∷ s.component3 ∷ s.component2 ∷ s.component1 ∷ s.component0 ∷ []
+source_parts s = cond s.negated 1 0 ∷ reverse s.components
 
 abbrev pub descriptor_parts : ℕ → List ℕ
 descriptor_parts d = (mask_of d ∷ source_parts (source1_of d)) ++ (source_parts (source2_of d) ++ (source_parts (source3_of d) ++ (field 31 1 d ∷ [])))

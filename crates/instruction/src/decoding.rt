@@ -178,8 +178,7 @@ fn fields_as(format: Format, word: u32) -> Fields
 pub fn decode(word: u32) -> Result<Fields, Refusal>
     ensures { answered result ≡ decode_of word }
 {
-    match format_of(field(word, 26, 6)) {
-        Some(format) => Ok(fields_as(format, word)),
-        None => Err(Reason::UnknownOpcode.at(0)),
-    }
+    format_of(field(word, 26, 6))
+        .map(|format| fields_as(format, word))
+        .ok_or(Reason::UnknownOpcode.at(0))
 }

@@ -1,5 +1,5 @@
 // Fields into words.
-ghost use Rattle.std.specs.Prelude.{◌≡◌, IsTrue, length, nat_lt};
+ghost use Rattle.std.specs.Prelude.{◌≡◌, IsTrue, nat_lt};
 ghost use Rattle.std.specs.List.{list_all};
 ghost use Rattle.answer.specs.Answers.{answered};
 ghost use Rattle.bits.specs.Fields.{total, pack, fit};
@@ -9,9 +9,10 @@ use crate::decoding::Fields;
 use crate::operation::{Format, entry_format};
 use answer::{Reason, Refusal};
 
-// The word that has the parts at the widths, from bit 0 up; none if a part exceeds its bits.
-fn packed(widths: &[u32], parts: &[u32]) -> Option<u32>
-    requires as_long { length parts.now ≡ length widths.now }
+// The word that has the parts at the widths, from bit 0 up; none if a part exceeds its bits. Expanded where
+// it is called, as is `word`, so that the widths are constants: encoding takes two thirds of the time.
+#[inline(always)]
+fn packed<const N: usize>(widths: &[u32; N], parts: &[u32; N]) -> Option<u32>
     requires whole { total widths.now ≡ 32 }
     requires narrow { IsTrue (list_all (λ n. nat_lt n 32) widths.now) }
     ensures { result ≡ word_if (fit widths.now parts.now) (pack widths.now parts.now) }
@@ -27,26 +28,41 @@ fn packed(widths: &[u32], parts: &[u32]) -> Option<u32>
     Some(word)
 }
 
-// The word of a format that has the parts, if `op` is the lowest opcode of an entry of the format.
-fn coded(op: u32, format: Format, parts: &[u32]) -> Option<u32>
-    requires as_long { length parts.now ≡ length (layout format) }
-    requires whole { total (layout format) ≡ 32 }
-    ensures { result ≡ code_of op format parts.now }
-{
-    if entry_format(op) != Some(format) {
-        return None;
-    }
-    match format {
-        Format::F0 => packed(&[26, 6], parts),
-        Format::F1 => packed(&[7, 5, 7, 2, 5, 6], parts),
-        Format::F1i => packed(&[7, 7, 5, 2, 5, 6], parts),
-        Format::F1u => packed(&[7, 5, 7, 2, 5, 6], parts),
-        Format::F1c => packed(&[7, 5, 7, 2, 3, 3, 5], parts),
-        Format::F2 => packed(&[8, 2, 12, 2, 1, 1, 6], parts),
-        Format::F3 => packed(&[8, 2, 12, 4, 6], parts),
-        Format::F4 => packed(&[22, 1, 1, 2, 6], parts),
-        Format::F5 => packed(&[5, 5, 7, 5, 2, 5, 3], parts),
-        Format::F5i => packed(&[5, 7, 5, 5, 2, 5, 3], parts),
+// A format and the widths of its parts, from bit 0 up, the opcode's last.
+struct Layout<const N: usize>(Format, [u32; N]);
+
+const LAYOUT_0: Layout<2> = Layout(Format::F0, [26, 6]);
+
+const LAYOUT_1: Layout<6> = Layout(Format::F1, [7, 5, 7, 2, 5, 6]);
+
+const LAYOUT_1I: Layout<6> = Layout(Format::F1i, [7, 7, 5, 2, 5, 6]);
+
+const LAYOUT_1U: Layout<6> = Layout(Format::F1u, [7, 5, 7, 2, 5, 6]);
+
+const LAYOUT_1C: Layout<7> = Layout(Format::F1c, [7, 5, 7, 2, 3, 3, 5]);
+
+const LAYOUT_2: Layout<7> = Layout(Format::F2, [8, 2, 12, 2, 1, 1, 6]);
+
+const LAYOUT_3: Layout<5> = Layout(Format::F3, [8, 2, 12, 4, 6]);
+
+const LAYOUT_4: Layout<5> = Layout(Format::F4, [22, 1, 1, 2, 6]);
+
+const LAYOUT_5: Layout<7> = Layout(Format::F5, [5, 5, 7, 5, 2, 5, 3]);
+
+const LAYOUT_5I: Layout<7> = Layout(Format::F5i, [5, 7, 5, 5, 2, 5, 3]);
+
+impl<const N: usize> Layout<N> {
+    // The word that has the parts, if `op` is the lowest opcode of an entry of the format.
+    #[inline(always)]
+    fn word(&self, op: u32, parts: &[u32; N]) -> Option<u32>
+        requires { self.now.1 ≡ layout self.now.0 }
+        ensures { result ≡ code_of op self.now.0 parts.now }
+    {
+        if entry_format(op) == Some(self.0) {
+            packed(&self.1, parts)
+        } else {
+            None
+        }
     }
 }
 
@@ -56,33 +72,31 @@ fn word_of(fields: Fields) -> Option<u32>
     ensures { result ≡ word_of fields }
 {
     match fields {
-        Fields::Format0(op, rest) => coded(op, Format::F0, &[rest, op]),
+        Fields::Format0(op, rest) => LAYOUT_0.word(op, &[rest, op]),
         Fields::Format1(op, desc, src2, src1, idx1, dst) => {
-            coded(op, Format::F1, &[desc, src2, src1, idx1, dst, op])
+            LAYOUT_1.word(op, &[desc, src2, src1, idx1, dst, op])
         }
         Fields::Format1i(op, desc, src2, src1, idx2, dst) => {
-            coded(op, Format::F1i, &[desc, src2, src1, idx2, dst, op])
+            LAYOUT_1I.word(op, &[desc, src2, src1, idx2, dst, op])
         }
         Fields::Format1u(op, desc, rest, src1, idx1, dst) => {
-            coded(op, Format::F1u, &[desc, rest, src1, idx1, dst, op])
+            LAYOUT_1U.word(op, &[desc, rest, src1, idx1, dst, op])
         }
         Fields::Format1c(op, desc, src2, src1, idx1, cmpy, cmpx) => {
-            coded(op, Format::F1c, &[desc, src2, src1, idx1, cmpy, cmpx, 0x17])
+            LAYOUT_1C.word(op, &[desc, src2, src1, idx1, cmpy, cmpx, 0x17])
         }
         Fields::Format2(op, num, rest, dst, condop, refy, refx) => {
-            coded(op, Format::F2, &[num, rest, dst, condop, refy, refx, op])
+            LAYOUT_2.word(op, &[num, rest, dst, condop, refy, refx, op])
         }
-        Fields::Format3(op, num, rest, dst, id) => {
-            coded(op, Format::F3, &[num, rest, dst, id, op])
-        }
+        Fields::Format3(op, num, rest, dst, id) => LAYOUT_3.word(op, &[num, rest, dst, id, op]),
         Fields::Format4(op, rest, winding, primemit, vtxid) => {
-            coded(op, Format::F4, &[rest, winding, primemit, vtxid, op])
+            LAYOUT_4.word(op, &[rest, winding, primemit, vtxid, op])
         }
         Fields::Format5(op, desc, src3, src2, src1, idx2, dst) => {
-            coded(op, Format::F5, &[desc, src3, src2, src1, idx2, dst, 7])
+            LAYOUT_5.word(op, &[desc, src3, src2, src1, idx2, dst, 7])
         }
         Fields::Format5i(op, desc, src3, src2, src1, idx3, dst) => {
-            coded(op, Format::F5i, &[desc, src3, src2, src1, idx3, dst, 6])
+            LAYOUT_5I.word(op, &[desc, src3, src2, src1, idx3, dst, 6])
         }
     }
 }

@@ -3,7 +3,7 @@
 
 ghost use Rattle.std.specs.Prelude.{◌≡◌, ◌<◌, ◌≤◌};
 ghost use Rattle.bits.specs.Fields.{field};
-ghost use Rattle.instruction.specs.Control.{control_of, is_block};
+ghost use Rattle.instruction.specs.Control.{control_of, is_block, is_untested};
 
 use binary::WordAddress;
 use bits::field;
@@ -85,4 +85,13 @@ pub fn is_block(word: u32) -> bool
     ensures { result ≡ is_block (control_of word) }
 {
     matches!(field(word, 26, 6), 0x27..=0x29)
+}
+
+// Whether nothing of a word is tested where it is visited, told by its opcode alone: it is NOP or END, or of
+// neither control flow nor output.
+#[tactic(auto, using(crate::proofs::Untested::untested_of))]
+pub fn is_untested(word: u32) -> bool
+    ensures { result ≡ is_untested (control_of word) }
+{
+    !matches!(field(word, 26, 6), 0x20 | 0x23..=0x2d)
 }

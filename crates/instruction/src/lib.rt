@@ -10,7 +10,7 @@ mod operation;
 
 pub use decoding::{Fields, decode};
 pub use encoding::encode;
-pub use flow_control::{Condition, Control, control_of, is_block};
+pub use flow_control::{Condition, Control, control_of, is_block, is_untested};
 pub use operand::{
     CompareOperators, Descriptor, Source, compare_operators_of, descriptor_of, takes_any_fields,
 };

@@ -35,13 +35,10 @@ pub struct CompareOperators {
 pub fn compare_operators_of(word: u32) -> Option<CompareOperators>
     ensures { result ≡ operators_of word }
 {
-    match field(word, 26, 6) {
-        0x2e..=0x2f => Some(CompareOperators {
-            x: field(word, 24, 3),
-            y: field(word, 21, 3),
-        }),
-        _ => None,
-    }
+    matches!(field(word, 26, 6), 0x2e..=0x2f).then_some(CompareOperators {
+        x: field(word, 24, 3),
+        y: field(word, 21, 3),
+    })
 }
 
 // Whether none of 9 to 12 can refuse the word, whatever its fields hold: the opcodes 20h to 2Dh (control
@@ -54,14 +51,11 @@ pub fn takes_any_fields(word: u32) -> bool
     matches!(op, 0x20..=0x2d) && op != 0x29
 }
 
-// How a source is read: 1 if negated, and for each component which of x, y, z, w (0 to 3) it takes.
+// How a source is read: whether it is negated, and for each component which of x, y, z, w (0 to 3) it takes.
 #[derive(Clone, Copy, Debug, PartialEq, Eq)]
 pub struct Source {
-    pub negated: u32,
-    pub component0: u32,
-    pub component1: u32,
-    pub component2: u32,
-    pub component3: u32,
+    pub negated: bool,
+    pub components: [u32; 4],
 }
 
 // The parts of the source that start at a bit of the descriptor.
@@ -70,11 +64,13 @@ fn source_at(descriptor: u32, pos: u32) -> Source
     ensures { result ≡ source_at pos descriptor }
 {
     Source {
-        negated: field(descriptor, pos, 1),
-        component0: field(descriptor, pos + 7, 2),
-        component1: field(descriptor, pos + 5, 2),
-        component2: field(descriptor, pos + 3, 2),
-        component3: field(descriptor, pos + 1, 2),
+        negated: field(descriptor, pos, 1) == 1,
+        components: [
+            field(descriptor, pos + 7, 2),
+            field(descriptor, pos + 5, 2),
+            field(descriptor, pos + 3, 2),
+            field(descriptor, pos + 1, 2),
+        ],
     }
 }
 

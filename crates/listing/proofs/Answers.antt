@@ -2,26 +2,29 @@
 -- Assumes nothing.
 use mathlib.Core.Path.{◌≡◌, refl, sym, ap, ◌∙◌}
 use mathlib.Core.List.{List, ◌++◌}
-use Prim.Native.Nat.{ℕ, ◌+◌, ◌*◌, ◌<◌}
+use Prim.Native.Nat.{ℕ, ◌+◌, ◌*◌, ◌≤◌, ◌<◌}
 use native.Mathlib.Omega.{arith}
-use lib.Seq.{take_at}
+use lib.Seq.{sets, take_at}
 use lib.ListN.{length, take, drop, get_or}
 use Rattle.std.proofs.lemmas.List.{same_lists}
-use Rattle.std.specs.Prelude.{Result, Ok}
+use Rattle.std.specs.Prelude.{Result, Ok, Err}
+use Rattle.answer.specs.Answers.{answered, given}
 use Rattle.answer.specs.declared.Refusal.{Refusal}
 use Rattle.binary.specs.Bytes.{u32_at}
 use Rattle.container.specs.Program.{count_of, program_of}
 use Rattle.container.specs.declared.placement.Table.{Table}
-use Rattle.listing.specs.Listing.{descriptor_at, descriptors_of}
+use Rattle.listing.specs.Listing.{descriptor_at, descriptors_of, records_of, line_at, list_answer, listed_bytes}
+use Rattle.listing.proofs.Laws.{enough}
 use Rattle.text.proofs.Fits.{record_length, line_fits, report_fits}
 use Rattle.text.specs.Records.{record_of, line_text, report_text}
 use Rattle.verifier.proofs.Clean.{accepted}
-use Rattle.verifier.proofs.Taken.{Taken, taken}
+use Rattle.verifier.proofs.Taken.{Taken, taken, refused_check}
 use Rattle.verifier.proofs.Lists.{length_list, list_at, filled_at, u32_drop}
 use Rattle.verifier.specs.Executables.{no_report, report_of}
 use Rattle.verifier.specs.Lists.{list_of}
 use Rattle.verifier.specs.Verdict.{check_of, judge_of, judged_as}
 use Rattle.verifier.specs.declared.verdict.Judged.{Judged}
+use Rattle.verifier.specs.declared.verdict.Library.{Library}
 use Rattle.verifier.specs.declared.verdict.Report.{Report}
 
 -- records of 80 bytes
@@ -32,6 +35,18 @@ pub report_wide : (i : ℕ) (r : Report) → length (record_of 80 (report_text i
 report_wide i r = record_length 79 (report_text i r) (report_fits i r)
 
 module _ (file : List ℕ) where
+  -- the listing's answers: the check's refusal; all lines
+  module _ (old : List ℕ) where
+    pub list_refused : {r : Result Library Refusal} {e : Refusal} → answered r ≡ check_of file → r ≡ Err e → (answered (Err e) ≡ list_answer file (length old)) × (old ≡ listed_bytes file old)
+    unfolding list_answer listed_bytes
+    list_refused a h = let c = refused_check file a h in (rw c, rw c)
+
+    pub list_done : {l : Library} {out : List ℕ} → check_of file ≡ given l → l.program.words.count * 80 ≤ length old
+        → out ≡ sets old 0 (records_of (line_at file l.program) l.program.words.count)
+        → (given (l.program.words.count * 80) ≡ list_answer file (length old)) × (out ≡ listed_bytes file old)
+    unfolding list_answer listed_bytes
+    list_done a h e = (rw (a, enough _ _ h), rw (a, enough _ _ h) e)
+
   -- the descriptors, one by one
   pub descriptors_are : (t : Table) (xs rest : List ℕ) {bytes : List ℕ} → bytes ≡ drop t.start.0 file → length xs ≡ t.count → ((k d : ℕ) → k < t.count → get_or xs k d ≡ u32_at bytes (k * 8))
       → take t.count (xs ++ rest) ≡ descriptors_of file t

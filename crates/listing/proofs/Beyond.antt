@@ -1,6 +1,6 @@
 -- What is in the buffer after a listing or a report: record i stands at i × 80, and nothing beyond the
 -- records is touched. Assumes nothing.
-use mathlib.Core.Path.{◌≡◌, refl, ◌∙◌}
+use mathlib.Core.Path.{◌≡◌, refl, sym, ◌∙◌}
 use mathlib.Core.Bool.{Bool, true, false}
 use mathlib.Core.List.{List, ◌++◌}
 use Prim.Native.Nat.{ℕ, zero, suc, ◌+◌, ◌*◌, ◌≤◌, ◌<◌}
@@ -11,7 +11,7 @@ use lib.Seq.{sets, sets-eq, take_all, take-append-le, drop-append-le, drop_at}
 use borrow.Author.Tests.{ltb-true, ltb-false}
 use Rattle.answer.specs.Answers.{given}
 use Rattle.listing.specs.Listing.{records_of, line_at, summary_at, list_answer, listed_bytes, summary_answer, summary_bytes}
-use Rattle.listing.proofs.Answers.{line_wide, report_wide}
+use Rattle.listing.proofs.Answers.{line_wide, report_wide, list_done}
 use Rattle.listing.proofs.Laws.{enough, records_length}
 use Rattle.verifier.specs.Verdict.{check_of}
 use Rattle.verifier.specs.declared.verdict.Library.{Library}
@@ -47,11 +47,9 @@ module _ (file old : List ℕ) {l : Library} (accepted : check_of file ≡ given
 
   pub listed : words * 80 ≤ length old
       → (list_answer file (length old) ≡ given (words * 80)) × (listed_bytes file old ≡ records_of (line_at file l.program) words ++ drop (words * 80) old)
-  unfolding list_answer listed_bytes
-  listed h = (
-    rw (accepted, enough (length old) words h),
-    rw (accepted, enough (length old) words h) (stored (line_at file l.program) (λ i. line_wide i _ _) words old h),
-  )
+  listed h =
+      let (answer, bytes) = list_done file old accepted h refl in
+      (sym answer, sym bytes ∙ stored (line_at file l.program) (λ i. line_wide i _ _) words old h)
 
   pub summarized : l.executables * 80 ≤ length old
       → (summary_answer file (length old) ≡ given (l.executables * 80)) × (summary_bytes file old ≡ records_of (summary_at file l.program) l.executables ++ drop (l.executables * 80) old)

@@ -1,8 +1,11 @@
 -- The listing and the report of a whole library (document 01, 'Listing and report', 'Numbers given back').
 -- Assumes nothing.
-use Rattle.std.specs.Prelude.{◌≡◌, ℕ, zero, suc, ◌+◌, ◌*◌, ◌<◌, List, [], ◌++◌, ltb, length, take}
+use Rattle.std.specs.Borrow.{Bor, MutBor}
+use Rattle.std.specs.Io.KnownBytes.{Appends}
+use Rattle.std.specs.Prelude.{◌≡◌, ℕ, zero, suc, ◌+◌, ◌*◌, ◌<◌, Bool, true, List, [], ◌++◌, ltb, length, take, Option, Result}
 use Rattle.std.proofs.lemmas.List.Edits.{sets}
-use Rattle.answer.specs.Answers.{Answer, given, refused, or_short}
+use Rattle.answer.specs.Answers.{Answer, answered, given, refused, or_short}
+use Rattle.answer.specs.declared.Refusal.{Refusal}
 use Rattle.binary.specs.Bytes.{u32_at}
 use Rattle.container.specs.declared.placement.Table.{Table}
 use Rattle.container.specs.declared.programs.Program.{Program}
@@ -43,7 +46,7 @@ abbrev pub writes : Answer ℕ → List ℕ → List ℕ → List ℕ
 writes (given n) records old = sets old 0 records
 writes (refused number place) records old = old
 
--- the same of records that a closure makes: if what it makes for each i must be f i, the records of f are written
+-- the same of records that a closure makes: if it must make f i for each i, the records of f are written
 abbrev pub WritesEach : (ℕ → List ℕ → Type 0) → ℕ → Answer ℕ → List ℕ → List ℕ → Type 0
 WritesEach Makes n answer old new = (f : ℕ → List ℕ) → ((i : ℕ) (r : List ℕ) → i < n → Makes i r → r ≡ f i) → new ≡ writes answer (records_of f n) old
 
@@ -81,3 +84,13 @@ summary_bytes file old = writes (summary_answer file (length old)) (summaries_in
 abbrev pub text_of : Answer ℕ → List ℕ → List ℕ
 text_of (given n) text = take n text
 text_of (refused number place) text = record_of 80 (refused_text number place)
+
+-- what a closure makes of a file in a buffer: its answer, and the text
+abbrev pub MakesText : (Bor (List ℕ) → MutBor (List ℕ) → Result ℕ Refusal → MutBor (List ℕ) → Type 0) → List ℕ → List ℕ → Result ℕ Refusal → List ℕ → Type 0
+MakesText Makes file room answer text =
+    (lent : Bor (List ℕ)) × (before after : MutBor (List ℕ)) × Makes lent before answer after × (lent.now ≡ file) × (before.now ≡ room) × (after.now ≡ text)
+
+-- .. and what is written of it, if all is
+abbrev pub WritesMade : (Bor (List ℕ) → MutBor (List ℕ) → Result ℕ Refusal → MutBor (List ℕ) → Type 0) → List ℕ → List ℕ → List ℕ → Bool → Option (List ℕ) → Option (List ℕ) → Type 0
+WritesMade Makes file room text whole old new =
+    (answer : Result ℕ Refusal) × MakesText Makes file room answer text × (whole ≡ true → Appends old new (text_of (answered answer) text))

@@ -3,13 +3,12 @@
 
 #![tactic(auto)]
 
-ghost use Rattle.std.specs.Prelude.{◌≡◌, ℕ, ◌<◌, ◌≤◌, length, take, slice_index_or, OnOk};
-ghost use Rattle.std.specs.Io.KnownBytes.{Appends};
+ghost use Rattle.std.specs.Prelude.{◌≡◌, ℕ, ◌<◌, ◌≤◌, length, take, slice_index_or, is_ok};
 ghost use Rattle.answer.specs.Answers.{answered};
 ghost use Rattle.text.specs.Records.{record_of, line_text, report_text};
 ghost use Rattle.verifier.specs.Executables.{no_report};
 ghost use Rattle.verifier.specs.Words.{word_at};
-ghost use Rattle.listing.specs.Listing.{WritesEach, descriptors_of, list_answer, listed_bytes, room, summary_answer, summary_bytes, text_of};
+ghost use Rattle.listing.specs.Listing.{WritesEach, WritesMade, descriptors_of, list_answer, listed_bytes, room, summary_answer, summary_bytes};
 
 use answer::{Reason, Refusal};
 use binary::{ByteOffset, WordAddress, offset_of_word, tail, u32_at};
@@ -97,15 +96,18 @@ pub fn summarize(file: &[u8], out: &mut [u8]) -> Result<u32, Refusal>
     )
 }
 
-// Writes what a call answered: the bytes that it wrote of the text, or the record of its refusal.
-pub fn write_text<W: Write>(
+// Writes the text that a call makes of a file in a lent buffer: the bytes that it says to be written there,
+// or the record of its refusal.
+pub fn write_text<W: Write, F: FnOnce(&[u8], &mut [u8]) -> Result<u32, Refusal>>(
     output: &mut W,
-    answer: Result<u32, Refusal>,
-    text: &[u8],
+    file: &[u8],
+    text: &mut [u8],
+    make: F,
 ) -> io::Result<()>
-    ensures { OnOk result (Appends (W.contents output.old) (W.contents output.new) (text_of (answered answer) text.now)) }
+    requires { F.IsAlwaysCallable make }
+    ensures { WritesMade (F.post make) file.now text.old text.new (is_ok result) (W.contents output.old) (W.contents output.new) }
 {
-    match answer {
+    match make(file, text) {
         Ok(written) => output.write_all(&text[..text.len().min(written as usize)]),
         Err(refusal) => output.write_all(&refused_line(refusal.number(), refusal.place)),
     }

@@ -24,10 +24,11 @@ use Rattle.tables.specs.declared.constants.Constant.TheVariants.{Vector}
 use Rattle.tables.specs.declared.constants.FloatVector.{FloatVector}
 use Rattle.verifier.specs.Executables.{entry_at}
 use Rattle.verifier.specs.Promise.{AcceptsClean}
-use Rattle.verifier.specs.Verdict.{check_of}
+use Rattle.verifier.specs.Verdict.{check_of, report_answer}
 use Rattle.verifier.specs.declared.verdict.Library.{Library}
+use Rattle.verifier.specs.declared.verdict.Report.{Report}
 use Rattle.walk.specs.Constants.{constant_by, entry_constant, constant_in, constant_answer}
-use Rattle.pica.specs.Libraries.{ExactlyClean}
+use Rattle.pica.specs.Libraries.{ExactlyClean, report_reply, KeepsToTotal}
 use Rattle.pica.specs.Replies.{Answered, reply, value_of, fitted, buffer_after}
 use Rattle.pica.specs.Executables.{NoNans}
 
@@ -51,6 +52,17 @@ module _ (file : List ℕ) where
   pub exactly_clean : (r : Result Library Refusal) (q : Result ℕ Refusal) {v : ℕ} → AcceptsClean file r → MatchResult r (λ l. q ≡ Ok 0) (λ e. q ≡ Err e) → Answered (answered q) v → ExactlyClean file v
   exactly_clean (Ok l) q x m w = record { clean = λ z. x.clean l refl; accepted = λ c. (rw m at w).number }
   exactly_clean (Err e) q x m w = record { clean = λ z. absurd (let b = rw m at w in let n = known e.reason in omega (arith, b.number, n)); accepted = λ c. let y = x.accepted c in absurd (let z : ◌≡◌ {A = ℕ} 0 1 = cc in omega arith) }
+
+  -- a report that is refused: the call's three promises
+  module _ (index : ℕ) where
+    abbrev pub ReportTold : List ℕ → List ℕ → ℕ → Type 0
+    ReportTold old out v =
+        Answered (map_answer value_of (report_reply file index (length old))) v × ((out ≡ buffer_after old (report_reply file index (length old))) × KeepsToTotal file index v out)
+
+    pub report_refused : (old : List ℕ) (v : ℕ) {r : Result Report Refusal} {e : Refusal} → answered r ≡ report_answer file index → r ≡ Err e → Answered (refused (number_of e.reason) e.place) v → ReportTold old old v
+    report_refused old v {r} {e} g h w =
+        let a : report_answer file index ≡ refused (number_of e.reason) e.place = sym g ∙ ap answered h in
+        (rw a w, (rw a, λ z. absurd (let n = known e.reason in omega (arith, w.number, n, z))))
 
   -- a constant
   module _ (index n : ℕ) where

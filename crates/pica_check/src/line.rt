@@ -15,7 +15,8 @@ pub(crate) fn write_line<W: Write>(output: &mut W, name: &[u8], said: &[u8]) -> 
     output.write_all(said)
 }
 
-// The number and the place are those of the report's record, whose other columns are spaces: one of them parts the place from the words.
+// The number and the place are those of the report's record, whose other columns are spaces: one of them
+// parts the place from the words.
 fn write_refusal<W: Write>(output: &mut W, refusal: Refusal) -> io::Result<()> {
     let record = refused_line(refusal.number(), refusal.place);
     output.write_all(&record[..20])?;

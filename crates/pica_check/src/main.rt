@@ -4,9 +4,8 @@
 
 mod line;
 
-use inputs::{argument, open_file, read_full};
+use inputs::{each_argument, open_file, read_full};
 use line::{write_line, write_verdict};
-use std::env::Env;
 use std::io;
 use std::io::Write;
 use std::rt::Files;
@@ -25,29 +24,10 @@ fn judge_file<F: Files, W: Write>(files: &F, output: &mut W, name: &[u8]) -> io:
     }
 }
 
-// Judges the file that an argument names, and answers whether there is such an argument.
-fn judge_argument<R: Env + Files, W: Write>(
-    rt: &R,
-    output: &mut W,
-    index: usize,
-) -> io::Result<bool> {
-    let mut name = [0u8; 4096];
-    let Some(length) = argument(rt, index, &mut name) else {
-        return Ok(false);
-    };
-    judge_file(rt, output, &name[..length])?;
-    Ok(true)
-}
-
 fn main(rt: HostRuntime) -> io::Result<()> {
     let mut output = rt.stdout();
-    if !judge_argument(&rt, &mut output, 1)? {
+    if each_argument(&rt, |name| judge_file(&rt, &mut output, name))? == 0 {
         return eprintln!(rt; "usage: pica_check FILE..");
-    }
-    for index in 2..usize::MAX {
-        if !judge_argument(&rt, &mut output, index)? {
-            break;
-        }
     }
     Ok(())
 }

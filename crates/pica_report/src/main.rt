@@ -11,7 +11,10 @@ use std::io;
 fn main(rt: HostRuntime) -> io::Result<()> {
     let mut bytes = [0u8; 65537];
     let (count, _) = read_what_comes(&mut rt.stdin(), &mut bytes);
-    let mut text = [0u8; 1280];
-    let answer = summarize(&bytes[..count], &mut text);
-    write_text(&mut rt.stdout(), answer, &text)
+    write_text(
+        &mut rt.stdout(),
+        &bytes[..count],
+        &mut [0u8; 1280],
+        summarize,
+    )
 }

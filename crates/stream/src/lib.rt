@@ -5,8 +5,9 @@
 mod cut_short;
 mod input;
 
-ghost use Rattle.std.specs.Prelude.{◌≡◌, [], length, Some, None, IfOk, IfSome, OnOk, OnErr};
+ghost use Rattle.std.specs.Prelude.{◌≡◌, [], length, take, Some, None, MatchOption, IfOk, IfSome, OnOk, OnErr};
 ghost use Rattle.std.specs.Counts.{IsPrefixLen};
+ghost use Rattle.stream.specs.Stream.{Takes, TakesLibrary, TakesCut, IsOver, VisitsEach};
 
 use binary::{ByteOffset, u32_at};
 use cut_short::{write_cut_length, write_cut_library};
@@ -15,14 +16,17 @@ use inputs::read_full;
 use std::io;
 use std::io::{Read, Write};
 
-// One byte more than a library may have is kept, so that a longer one is seen to be longer. The rest is passed over, so that the next library is read from its start.
+// One byte more than a library may have is kept, so that a longer one is seen to be longer. The rest is
+// passed over, so that the next library is read from its start.
 fn read_library<R: Read, W: Write>(
     input: &mut R,
     output: &mut W,
     length: usize,
     bytes: &mut [u8; 65537],
 ) -> io::Result<Option<usize>>
-    ensures { IfOk result (λ next. IfSome next (λ kept. IsPrefixLen kept bytes.new)) }
+    ensures inside { IfOk result (λ next. IfSome next (λ kept. IsPrefixLen kept bytes.new)) }
+    ensures next { IfOk result (λ next. MatchOption next (TakesCut (R.remaining input.old) (R.remaining input.new) length) (λ kept. TakesLibrary (R.remaining input.old) (R.remaining input.new) length (take kept bytes.new))) }
+    ensures silent { IfOk result (λ next. IfSome next (λ kept. output.new ≡ output.old)) }
 {
     let count = read_some(input, length, bytes)?;
     let mut got = count;
@@ -37,13 +41,15 @@ fn read_library<R: Read, W: Write>(
 }
 
 // Puts the next library at the start of `bytes`, and answers how many of its bytes are kept; none where the
-// stream is over. One that is cut short is over, and a line of the output says so: every trial shows it alike.
+// stream is over. One that is cut short is over, and a line of the output says so, alike in every trial.
 pub fn next_library<R: Read, W: Write>(
     input: &mut R,
     output: &mut W,
     bytes: &mut [u8; 65537],
 ) -> io::Result<Option<usize>>
     ensures next { IfOk result (λ next. IfSome next (λ kept. IsPrefixLen kept bytes.new)) }
+    ensures taken { IfOk result (λ next. MatchOption next (IsOver (R.remaining input.old) (R.remaining input.new)) (λ kept. Takes (R.remaining input.old) (R.remaining input.new) (take kept bytes.new))) }
+    ensures silent { IfOk result (λ next. IfSome next (λ kept. output.new ≡ output.old)) }
     ensures over { R.remaining input.old ≡ Some [] → IfOk result (λ next. (next ≡ None) × (output.new ≡ output.old)) }
     ensures failed { OnErr result (length bytes.new ≡ length bytes.old) }
 {
@@ -59,24 +65,25 @@ pub fn next_library<R: Read, W: Write>(
     Ok(None)
 }
 
-// Visits one library after another, until the stream is over or a visit answers that it was the last. A proved
-// loop has to end, and nothing says that the input does: so it counts its turns, up to a number that no run
-// uses up.
+// Visits one library after another, until the stream is over or a visit answers that it was the last. A
+// proved loop has to end, and nothing says that the input does: so it counts its turns, up to a number that
+// no run uses up.
 pub fn each_library<R: Read, W: Write, F: FnMut(&mut R, &mut W, &[u8]) -> io::Result<bool>>(
     input: &mut R,
     output: &mut W,
     mut visit: F,
 ) -> io::Result<()>
     requires { F.IsAlwaysCallable visit }
-    ensures { R.remaining input.old ≡ Some [] → OnOk result (output.new ≡ output.old) }
+    ensures visits { OnOk result (VisitsEach R.remaining F.step input.old output.old visit input.new output.new) }
+    ensures over { R.remaining input.old ≡ Some [] → OnOk result (output.new ≡ output.old) }
 {
     let mut bytes = [0u8; 65537];
     for _ in 0..u64::MAX {
         let Some(kept) = next_library(input, output, &mut bytes)? else {
-            break;
+            return Ok(());
         };
         if !visit(input, output, &bytes[..kept])? {
-            break;
+            return Ok(());
         }
     }
     Ok(())

@@ -1,7 +1,6 @@
 // Constants: reading an entry, and the constant that it holds; refusal 18.
 ghost use Rattle.std.specs.Prelude.{◌≡◌, is_some};
 ghost use Rattle.answer.specs.Faults.{faulted};
-ghost use Rattle.bits.specs.Fields.{field};
 ghost use Rattle.tables.specs.Constants.{entry_of, flag_of, bytes_of, vector_of, convert_of, constant_fault};
 
 use crate::entries::refuse_unless;
@@ -62,19 +61,12 @@ pub fn constant_entry(entry: &[u8]) -> ConstantEntry
     }
 }
 
-// The byte of a word from bit `pos` on.
-fn byte_of(word: u32, pos: u32) -> u8
-    ensures { result ≡ field pos 8 word }
-{
-    field(word, pos, 8) as u8
-}
-
 // Whether an entry is a good bool, a good integer, a good vector. Told without a conversion, since the check
 // tests every entry and converts none.
 fn is_flag(e: ConstantEntry) -> bool
     ensures { result ≡ is_some (flag_of e) }
 {
-    (e.id <= 15) & (byte_of(e.x, 0) <= 1)
+    (e.id <= 15) & (field(e.x, 0, 8) <= 1)
 }
 
 fn is_bytes(e: ConstantEntry) -> bool
@@ -94,20 +86,14 @@ fn is_vector(e: ConstantEntry) -> bool
 fn flag_of(e: ConstantEntry) -> Option<Constant>
     ensures { result ≡ flag_of e }
 {
-    let value = byte_of(e.x, 0);
-    is_flag(e).then_some(Constant::Flag(value == 1))
+    is_flag(e).then_some(Constant::Flag(field(e.x, 0, 8) == 1))
 }
 
 fn bytes_of(e: ConstantEntry) -> Option<Constant>
     ensures { result ≡ bytes_of e }
 {
-    let bytes = ByteVector {
-        x: byte_of(e.x, 0),
-        y: byte_of(e.x, 8),
-        z: byte_of(e.x, 16),
-        w: byte_of(e.x, 24),
-    };
-    is_bytes(e).then_some(Constant::Bytes(bytes))
+    let [x, y, z, w] = e.x.to_le_bytes();
+    is_bytes(e).then_some(Constant::Bytes(ByteVector { x, y, z, w }))
 }
 
 fn vector_of(e: ConstantEntry) -> Option<Constant>

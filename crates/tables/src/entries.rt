@@ -22,7 +22,7 @@ pub fn label_fault(entry: &[u8], words: u32, names_end: u64, place: u32) -> Resu
 {
     let address = WordAddress(u32_at(entry, ByteOffset(0x04)));
     let name = ByteOffset(u32_at(entry, ByteOffset(0x0c)) as u64);
-    let good = (address.0 <= words) & (name.0 < names_end);
+    let good = (address <= WordAddress(words)) & (name < ByteOffset(names_end));
     refuse_unless(good, Reason::BadLabel, place)
 }
 
@@ -34,14 +34,14 @@ pub fn output_fault(entry: &[u8], place: u32) -> Result<(), Refusal>
     let kind = u16_at(entry, ByteOffset(0));
     let register = u16_at(entry, ByteOffset(2));
     let mask = u16_at(entry, ByteOffset(4));
-    let good = ((kind <= 6) | (kind == 8)) & (register <= 15) & (1 <= mask) & (mask <= 15);
+    let good = ((kind <= 6) | (kind == 8)) & (register <= 15) & (1..=15).contains(&mask);
     refuse_unless(good, Reason::BadOutput, place)
 }
 
 fn both_in(low: u16, high: u16, start: u16, end: u16) -> bool
     ensures { result ≡ both_in low high start end }
 {
-    (low <= start) & (start <= high) & (low <= end) & (end <= high)
+    (low..=high).contains(&start) & (low..=high).contains(&end)
 }
 
 // Whether both registers are vertex inputs, or both float, integer or bool uniforms.
@@ -63,6 +63,6 @@ pub fn uniform_fault(entry: &[u8], names_end: u64, place: u32) -> Result<(), Ref
     let name = ByteOffset(u32_at(entry, ByteOffset(0)) as u64);
     let start = u16_at(entry, ByteOffset(4));
     let end = u16_at(entry, ByteOffset(6));
-    let good = (start <= end) & in_one_kind(start, end) & (name.0 < names_end);
+    let good = (start <= end) & in_one_kind(start, end) & (name < ByteOffset(names_end));
     refuse_unless(good, Reason::BadUniform, place)
 }

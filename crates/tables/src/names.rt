@@ -7,8 +7,8 @@ ghost use Rattle.tables.specs.Names.{names_end};
 pub fn names_end(symbols: &[u8]) -> u64
     ensures { result ≡ names_end symbols.now }
 {
-    match symbols.iter().rposition(|&b| b == 0) {
-        Some(last) => last as u64 + 1,
-        None => 0,
-    }
+    symbols
+        .iter()
+        .rposition(|&b| b == 0)
+        .map_or(0, |last| last as u64 + 1)
 }

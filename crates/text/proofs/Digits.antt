@@ -1,10 +1,12 @@
 -- Digits from the last: one more of them stands before the others. Assumes nothing.
-use Rattle.std.proofs.Common.{◌≡◌, ℕ, zero, suc, ◌-◌, ◌/◌, ◌%◌, ◌<◌, ◌≤◌, List, ◌++◌, set, drop, length, arith}
-use Rattle.std.proofs.lemmas.Grind.{common_steps}
+use Rattle.std.proofs.Common.{◌≡◌, ℕ, suc, ◌+◌, ◌-◌, ◌/◌, ◌%◌, ◌<◌, List, ◌∷◌, [], ◌++◌, set, take, length, reverse, arith, append_assoc}
+use Rattle.std.proofs.lemmas.List.{reverse-append, take_more_set}
 use Rattle.text.specs.Pieces.{digit, digits}
 
-pub one_more : (base i n : ℕ) (out all : List ℕ) → 0 < i → i ≤ length out → digits base i n ++ drop i out ≡ all
-    → digits base (i - 1) (n / base) ++ drop (i - 1) (set out (i - 1) (digit (n % base))) ≡ all
+pub one_more : (base width i n : ℕ) (out all : List ℕ) → length out ≡ width → i < width → digits base (width - i) n ++ reverse (take i out) ≡ all
+    → digits base (width - (i + 1)) (n / base) ++ reverse (take (i + 1) (set out i (digit (n % base)))) ≡ all
 unfolding digits
-one_more base zero n out all h k e = absurd (omega arith)
-one_more base (suc i) n out all h k e = let z : suc i - 1 ≡ i = omega arith in rw z (grind (arith, common_steps))
+one_more base width i n out all h k e =
+    let a : width - i ≡ suc (width - (i + 1)) = omega arith in
+    let t : take (i + 1) (set out i (digit (n % base))) ≡ take i out ++ digit (n % base) ∷ [] = take_more_set out i _ (omega arith) in
+    rw (t, reverse-append (take i out) (digit (n % base) ∷ [])) (rw append_assoc at (rw a at e))

@@ -6,7 +6,11 @@ use Rattle.instruction.specs.Operations.{operations}
 use Rattle.instruction.specs.declared.decoding.Fields.{Fields}
 use Rattle.instruction.specs.declared.decoding.Fields.TheVariants.{Format0, Format1, Format1i, Format1u, Format1c, Format2, Format3, Format4, Format5, Format5i}
 use Rattle.instruction.specs.declared.operand.Source.{Source}
-use Rattle.text.specs.Operands.{operator_text, target_text, condition_text, one_source, two_sources, three_sources, compare_text, of_format2, of_format3, of_format4, operands_in}
+use Rattle.text.specs.declared.operands.Condition.{Condition}
+use Rattle.text.specs.declared.operands.Target.{Target}
+use Rattle.text.specs.declared.registers.Destination.{Destination}
+use Rattle.text.specs.declared.registers.Register.{Register}
+use Rattle.text.specs.Operands.{operator_text, target_text, both_text, condition_text, one_source, two_sources, three_sources, compare_text, of_format2, of_format3, of_format4, operands_in}
 use Rattle.text.specs.Pieces.{digit, digits, decimal, lettered, labelled, name_text}
 use Rattle.text.specs.Records.{record_of, operation_text, line_text, head_text, counts_text, report_text}
 use Rattle.text.specs.Registers.{register_text, sign_text, index_text, selectors_text, source_text, written_text, mask_text, written_register, destination_text}
@@ -32,21 +36,21 @@ length_labelled label width n = grind (arith, common_steps, length_digits)
 pub register_fits : (n : ℕ) → length (register_text n) ≤ 3
 register_fits n = grind (arith, common_steps, lettered_fits)
 
-pub sign_fits : (n : ℕ) → length (sign_text n) ≤ 1
-sign_fits n = grind (arith, common_steps)
+pub sign_fits : (negated : Bool) → length (sign_text negated) ≤ 1
+sign_fits negated = grind (arith, common_steps)
 
-pub index_fits : (n : ℕ) → length (index_text n) ≤ 6
-index_fits n = grind (arith, common_steps)
+pub index_fits : (index : ℕ) → length (index_text index) ≤ 6
+index_fits index = grind (arith, common_steps)
 
-pub selectors_fit : (s : Source) → length (selectors_text s) ≤ 5
-selectors_fit s = grind (arith, common_steps)
+pub selectors_fit : (s : Source) → length s.components ≡ 4 → length (selectors_text s) ≡ 5
+selectors_fit s h = grind (arith, common_steps)
 
-pub source_fits : (s : Source) (register idx : ℕ) → length (source_text s register idx) ≤ 15
+pub source_fits : (s : Source) (r : Register) → length s.components ≡ 4 → length (source_text s r) ≤ 15
 unfolding source_text
-source_fits s register idx = grind (arith, common_steps, sign_fits, register_fits, index_fits, selectors_fit)
+source_fits s r h = grind (arith, common_steps, sign_fits, register_fits, index_fits, selectors_fit)
 
-pub written_fits : (bit k : ℕ) → length (written_text bit k) ≤ 1
-written_fits bit k = grind (arith, common_steps)
+pub written_fits : (written : Bool) (k : ℕ) → length (written_text written k) ≤ 1
+written_fits written k = grind (arith, common_steps)
 
 pub mask_fits : (m : ℕ) → length (mask_text m) ≤ 4
 mask_fits m = grind (arith, common_steps, written_fits)
@@ -54,36 +58,39 @@ mask_fits m = grind (arith, common_steps, written_fits)
 pub written_register_fits : (op n : ℕ) → length (written_register op n) ≤ 3
 written_register_fits op n = grind (arith, common_steps, lettered_fits)
 
-pub destination_fits : (op n m : ℕ) → length (destination_text op n m) ≤ 8
+pub destination_fits : (to : Destination) → length (destination_text to) ≤ 8
 unfolding destination_text
-destination_fits op n m = grind (arith, common_steps, written_register_fits, mask_fits)
+destination_fits to = grind (arith, common_steps, written_register_fits, mask_fits)
 
 pub operator_fits : (k : ℕ) → length (operator_text k) ≤ 2
 operator_fits k = grind (arith, common_steps)
 
-pub target_fits : (dst num : ℕ) → length (target_text dst num) ≤ 7
-target_fits dst num = grind (arith, common_steps, length_digits)
+pub target_fits : (t : Target) → length (target_text t) ≤ 7
+target_fits t = grind (arith, common_steps, length_digits)
 
-pub condition_fits : (condop refy refx : ℕ) → length (condition_text condop refy refx) ≤ 7
-condition_fits condop refy refx = grind (arith, common_steps, lettered_fits)
+pub both_fit : (refx sign refy : ℕ) → length (both_text refx sign refy) ≤ 7
+both_fit refx sign refy = grind (arith, common_steps, lettered_fits)
 
-pub one_fits : (op dst d src1 idx1 : ℕ) → length (one_source op dst d src1 idx1) ≤ 24
-one_fits op dst d src1 idx1 = grind (arith, common_steps, destination_fits, source_fits)
+pub condition_fits : (c : Condition) → length (condition_text c) ≤ 7
+condition_fits c = grind (arith, common_steps, lettered_fits, both_fit)
 
-pub two_fit : (op dst d src1 idx1 src2 idx2 : ℕ) → length (two_sources op dst d src1 idx1 src2 idx2) ≤ 40
-two_fit op dst d src1 idx1 src2 idx2 = grind (arith, common_steps, one_fits, source_fits)
+pub one_fits : (to : Destination) (first : Register) → length (one_source to first) ≤ 24
+one_fits to first = grind (arith, common_steps, destination_fits, source_fits)
 
-three_fit : (op dst d src1 src2 idx2 src3 idx3 : ℕ) → length (three_sources op dst d src1 src2 idx2 src3 idx3) ≤ 56
-three_fit op dst d src1 src2 idx2 src3 idx3 = grind (arith, common_steps, two_fit, source_fits)
+pub two_fit : (to : Destination) (first second : Register) → length (two_sources to first second) ≤ 40
+two_fit to first second = grind (arith, common_steps, one_fits, source_fits)
 
-compare_fits : (d src1 idx1 x y src2 : ℕ) → length (compare_text d src1 idx1 x y src2) ≤ 37
-compare_fits d src1 idx1 x y src2 = grind (arith, common_steps, source_fits, operator_fits)
+three_fit : (to : Destination) (first second third : Register) → length (three_sources to first second third) ≤ 56
+three_fit to first second third = grind (arith, common_steps, two_fit, source_fits)
 
-format_2_fits : (op num dst condop refy refx : ℕ) → length (of_format2 op num dst condop refy refx) ≤ 15
-format_2_fits op num dst condop refy refx = grind (arith, common_steps, condition_fits, target_fits, length_digits)
+compare_fits : (d : ℕ) (first : Register) (x y : ℕ) (second : Register) → length (compare_text d first x y second) ≤ 37
+compare_fits d first x y second = grind (arith, common_steps, source_fits, operator_fits)
 
-format_3_fits : (op num dst id : ℕ) → length (of_format3 op num dst id) ≤ 11
-format_3_fits op num dst id = grind (arith, common_steps, lettered_fits, target_fits, length_digits)
+format_2_fits : (op : ℕ) (t : Target) (c : Condition) → length (of_format2 op t c) ≤ 15
+format_2_fits op t c = grind (arith, common_steps, condition_fits, target_fits, length_digits)
+
+format_3_fits : (op : ℕ) (t : Target) (id : ℕ) → length (of_format3 op t id) ≤ 11
+format_3_fits op t id = grind (arith, common_steps, lettered_fits, target_fits, length_digits)
 
 format_4_fits : (winding primemit vtxid : ℕ) → length (of_format4 winding primemit vtxid) ≤ 11
 format_4_fits winding primemit vtxid = grind (arith, common_steps, lettered_fits)

@@ -1,4 +1,5 @@
--- Texts of document 01, and of outside vectors that have each format, index, sign and mask, by computing. Assumes nothing.
+-- Texts of document 01, and of outside vectors that have each format, index, sign and mask, by computing.
+-- Assumes nothing.
 use mathlib.Core.Path.{◌≡◌, refl}
 use mathlib.Core.List.{List, [], ◌∷◌, ◌++◌, map}
 use Prim.Native.Nat.{ℕ}

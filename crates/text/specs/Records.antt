@@ -8,7 +8,8 @@ use Rattle.text.specs.Operands.{operands_in}
 use Rattle.text.specs.Pieces.{bytes, padded, digits, labelled, name_text}
 use Rattle.verifier.specs.declared.verdict.Report.{Report}
 
--- 'records of 80 bytes, a line feed in column 79': a text, spaces after it, a line feed in the last column of the width
+-- 'records of 80 bytes, a line feed in column 79': a text, spaces after it, a line feed in the last column of
+-- the width
 abbrev pub record_of : ℕ → List ℕ → List ℕ
 record_of width p = padded (width - 1) p ++ 0x0a ∷ []
 
@@ -31,7 +32,8 @@ counts_text r =
     labelled (bytes " in ") 2 r.inputs ++ labelled (bytes " out ") 2 r.outputs ++ labelled (bytes " con ") 4 r.constants
     ++ labelled (bytes " words ") 4 r.words ++ labelled (bytes " most ") 7 r.total
 
--- 'All decimal: executable, type, main, endmain, ones in the input mask, ones in the output mask, constants, distinct words visited, total'
+-- 'All decimal: executable, type, main, endmain, ones in the input mask, ones in the output mask, constants,
+-- distinct words visited, total'
 unfoldable pub report_text : ℕ → Report → List ℕ
 report_text index r = head_text index r ++ counts_text r
 

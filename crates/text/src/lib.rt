@@ -1,4 +1,5 @@
-// Records of text, 80 bytes each with a line feed at the end: a line of the listing, a line of the report, the record of a refused file.
+// Records of text, 80 bytes each with a line feed at the end: a line of the listing, a line of the report,
+// the record of a refused file.
 
 #![tactic(auto)]
 

@@ -1,5 +1,5 @@
 // A line of text, written from the left.
-#![tactic(auto, using(crate::proofs::Digits::one_more), unfolding(crate::specs::Pieces::digits, crate::specs::Pieces::decimal, crate::specs::Pieces::lettered, crate::specs::Pieces::labelled))]
+#![tactic(auto, unfolding(crate::specs::Pieces::digits, crate::specs::Pieces::decimal, crate::specs::Pieces::lettered, crate::specs::Pieces::labelled))]
 
 ghost use Rattle.std.specs.Prelude.{◌≡◌, [], ◌∷◌, ◌++◌, ◌+◌, ◌≤◌, ◌<◌, length};
 ghost use Rattle.text.specs.Pieces.{digits, decimal, lettered, labelled};
@@ -103,16 +103,17 @@ impl Line {
     }
 }
 
-// The lowest WIDTH digits of n, found from the last.
+// The lowest WIDTH digits of n. They are found from the last.
 fn digits_of<const BASE: u32, const WIDTH: usize>(n: u32) -> [u8; WIDTH]
     requires { (1 < BASE) × (BASE ≤ 16) }
     ensures { result ≡ digits BASE WIDTH n }
 {
     let mut out = [0; WIDTH];
     let mut rest = n;
-    for i in (0..WIDTH).rev() {
-        out[i] = DIGITS[(rest % BASE) as usize];
+    for digit in out.iter_mut() {
+        *digit = DIGITS[(rest % BASE) as usize];
         rest /= BASE;
     }
+    out.reverse();
     out
 }

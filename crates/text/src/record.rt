@@ -1,5 +1,5 @@
 // Records: a text, spaces after it, and a line feed in the last column.
-#![tactic(auto, using(crate::proofs::Fits::texts, crate::proofs::Records::no_name), unfolding(crate::specs::Records::line_text, crate::specs::Records::report_text, crate::specs::Records::refused_text))]
+#![tactic(auto, using(crate::proofs::Fits::texts, crate::proofs::Records::name_at, crate::proofs::Records::no_name), unfolding(crate::specs::Records::line_text, crate::specs::Records::report_text, crate::specs::Records::refused_text))]
 
 ghost use Rattle.std.specs.Prelude.{◌≡◌, ◌++◌, ◌+◌, ◌≤◌, length};
 ghost use Rattle.instruction.specs.Words.{number_of, decode_of};
@@ -11,8 +11,25 @@ use instruction::{Fields, decode};
 use verifier::Report;
 
 // The name of each operation, by its number, in seven columns.
-const NAMES: [u8; 448] =
-    *b"ADD    DP3    DP4    DPH    DST    EX2    LG2    LITP   MUL    SGE    SLT    FLR    MAX    MIN    RCP    RSQ                  MOVA   MOV                                DPHI   DSTI   SGEI   SLTI                               BREAK  NOP    END    BREAKC CALL   CALLC  CALLU  IFU    IFC    LOOP   EMIT   SETEMITJMPC   JMPU   CMP           MADI                                                    MAD                                                     ";
+#[rattlefmt::skip]
+const NAMES: [[u8; 7]; 64] = [
+    *b"ADD    ", *b"DP3    ", *b"DP4    ", *b"DPH    ",
+    *b"DST    ", *b"EX2    ", *b"LG2    ", *b"LITP   ",
+    *b"MUL    ", *b"SGE    ", *b"SLT    ", *b"FLR    ",
+    *b"MAX    ", *b"MIN    ", *b"RCP    ", *b"RSQ    ",
+    *b"       ", *b"       ", *b"MOVA   ", *b"MOV    ",
+    *b"       ", *b"       ", *b"       ", *b"       ",
+    *b"DPHI   ", *b"DSTI   ", *b"SGEI   ", *b"SLTI   ",
+    *b"       ", *b"       ", *b"       ", *b"       ",
+    *b"BREAK  ", *b"NOP    ", *b"END    ", *b"BREAKC ",
+    *b"CALL   ", *b"CALLC  ", *b"CALLU  ", *b"IFU    ",
+    *b"IFC    ", *b"LOOP   ", *b"EMIT   ", *b"SETEMIT",
+    *b"JMPC   ", *b"JMPU   ", *b"CMP    ", *b"       ",
+    *b"MADI   ", *b"       ", *b"       ", *b"       ",
+    *b"       ", *b"       ", *b"       ", *b"       ",
+    *b"MAD    ", *b"       ", *b"       ", *b"       ",
+    *b"       ", *b"       ", *b"       ", *b"       ",
+];
 
 fn number_of(fields: Fields) -> u32
     ensures { result ≡ number_of fields }
@@ -36,11 +53,9 @@ impl Line {
         requires { length self.old + 7 ≤ 79 }
         ensures { self.new ≡ self.old ++ name_text op }
     {
-        if op < 64 {
-            let start = op as usize * 7;
-            self.put_text(&NAMES[start..start + 7]);
-        } else {
-            self.put_text(b"       ");
+        match NAMES.get(op as usize) {
+            Some(name) => self.put_text(name),
+            None => self.put_text(b"       "),
         }
     }
 

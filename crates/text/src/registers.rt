@@ -2,14 +2,17 @@
 #![tactic(auto, using(crate::proofs::Fits::texts), unfolding(crate::specs::Registers::source_text, crate::specs::Registers::destination_text))]
 
 ghost use Rattle.std.specs.Prelude.{◌≡◌, ◌++◌, ◌+◌, ◌≤◌, length};
-ghost use Rattle.text.specs.Registers.{component, register_text, sign_text, index_text, selectors_text, source_text, written_text, mask_text, written_register, destination_text};
+ghost use Rattle.text.specs.Registers.{component, indexed, plain, destination_of, register_text, sign_text, index_text, selectors_text, source_text, written_text, mask_text, written_register, destination_text};
 
 use crate::line::Line;
-use instruction::Source;
+use instruction::{Descriptor, Source};
 
 const COMPONENTS: [u8; 4] = *b"xyzw";
 
-// A source register, and which of the index registers is added to its number; 0 is none.
+// The operation that writes the address register, by its number.
+const MOVA: u32 = 0x12;
+
+// A source register, and IDX: which of the index registers is added to its number; 0 is none.
 #[derive(Clone, Copy)]
 pub(crate) struct Register {
     pub(crate) number: u32,
@@ -17,17 +20,33 @@ pub(crate) struct Register {
 }
 
 pub(crate) fn indexed(number: u32, index: u32) -> Register
-    ensures number { result.number ≡ number }
-    ensures index { result.index ≡ index }
+    ensures { result ≡ indexed number index }
 {
     Register { number, index }
 }
 
 pub(crate) fn plain(number: u32) -> Register
-    ensures number { result.number ≡ number }
-    ensures index { result.index ≡ 0 }
+    ensures { result ≡ plain number }
 {
     indexed(number, 0)
+}
+
+// Where an operation writes, and its descriptor, which has the mask, and how the sources are read.
+#[derive(Clone, Copy)]
+pub(crate) struct Destination {
+    pub(crate) op: u32,
+    pub(crate) register: u32,
+    pub(crate) descriptor: Descriptor,
+}
+
+pub(crate) fn destination_of(op: u32, register: u32, descriptor: Descriptor) -> Destination
+    ensures { result ≡ destination_of op register descriptor.0 }
+{
+    Destination {
+        op,
+        register,
+        descriptor,
+    }
 }
 
 fn component(k: u32) -> u8
@@ -51,11 +70,11 @@ impl Line {
         }
     }
 
-    fn put_sign(&mut self, negated: u32)
+    fn put_sign(&mut self, negated: bool)
         requires { length self.old + 1 ≤ 79 }
         ensures { self.new ≡ self.old ++ sign_text negated }
     {
-        if negated != 0 {
+        if negated {
             self.put_byte(b'-');
         }
     }
@@ -77,15 +96,14 @@ impl Line {
         ensures { self.new ≡ self.old ++ selectors_text s }
     {
         self.put_byte(b'.');
-        self.put_byte(component(s.component0));
-        self.put_byte(component(s.component1));
-        self.put_byte(component(s.component2));
-        self.put_byte(component(s.component3));
+        for &k in &s.components {
+            self.put_byte(component(k));
+        }
     }
 
     pub(crate) fn put_source(&mut self, s: Source, register: Register)
         requires { length self.old + 15 ≤ 79 }
-        ensures { self.new ≡ self.old ++ source_text s register.number register.index }
+        ensures { self.new ≡ self.old ++ source_text s register }
     {
         self.put_sign(s.negated);
         self.put_register(register.number);
@@ -93,12 +111,12 @@ impl Line {
         self.put_selectors(s);
     }
 
-    // A component, if its bit is set.
-    fn put_written(&mut self, bit: u32, k: u32)
+    // A component, if it is written.
+    fn put_written(&mut self, written: bool, k: u32)
         requires { length self.old + 1 ≤ 79 }
-        ensures { self.new ≡ self.old ++ written_text bit k }
+        ensures { self.new ≡ self.old ++ written_text written k }
     {
-        if bit != 0 {
+        if written {
             self.put_byte(component(k));
         }
     }
@@ -110,19 +128,18 @@ impl Line {
         if mask % 16 == 0 {
             self.put_byte(b'_');
         } else {
-            self.put_written(mask / 8 % 2, 0);
-            self.put_written(mask / 4 % 2, 1);
-            self.put_written(mask / 2 % 2, 2);
-            self.put_written(mask % 2, 3);
+            self.put_written(mask / 8 % 2 == 1, 0);
+            self.put_written(mask / 4 % 2 == 1, 1);
+            self.put_written(mask / 2 % 2 == 1, 2);
+            self.put_written(mask % 2 == 1, 3);
         }
     }
 
-    // What is written: MOVA writes the address register.
     fn put_written_register(&mut self, op: u32, register: u32)
         requires { length self.old + 3 ≤ 79 }
         ensures { self.new ≡ self.old ++ written_register op register }
     {
-        if op == 0x12 {
+        if op == MOVA {
             self.put_lettered(b'a', 0);
         } else if register < 0x10 {
             self.put_lettered(b'o', register);
@@ -131,12 +148,12 @@ impl Line {
         }
     }
 
-    pub(crate) fn put_destination(&mut self, op: u32, register: u32, mask: u32)
+    pub(crate) fn put_destination(&mut self, to: Destination)
         requires { length self.old + 8 ≤ 79 }
-        ensures { self.new ≡ self.old ++ destination_text op register mask }
+        ensures { self.new ≡ self.old ++ destination_text to }
     {
-        self.put_written_register(op, register);
+        self.put_written_register(to.op, to.register);
         self.put_byte(b'.');
-        self.put_mask(mask);
+        self.put_mask(to.descriptor.mask());
     }
 }

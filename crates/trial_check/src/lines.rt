@@ -19,7 +19,8 @@ fn write_report<W: Write>(output: &mut W, index: u32, report: Report) -> io::Res
     )
 }
 
-// An accepted library has at most 16 executables. The trial does not lean on that, so that a wrong count shows in the lines.
+// An accepted library has at most 16 executables. The trial does not lean on that, so that a wrong count
+// shows in the lines.
 fn write_reports<W: Write>(output: &mut W, judged: Judged) -> io::Result<()> {
     let executables = judged.library.executables;
     writeln!(output, "accepted {executables}")?;

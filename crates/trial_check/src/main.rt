@@ -1,5 +1,6 @@
 // Tries `verifier` on the libraries of standard input: the verdict, and a line for each report.
-// Its stdin holds the outside libraries in the order of their names and one that is cut short on purpose; its stdout was made from their reports.
+// Its stdin holds the outside libraries in the order of their names and one that is cut short on purpose; its
+// stdout was made from their reports.
 
 #![tactic(auto)]
 

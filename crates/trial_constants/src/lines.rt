@@ -29,7 +29,7 @@ pub(crate) fn write_constant<W: Write>(
 ) -> io::Result<()> {
     write!(output, "{executable} {n} ")?;
     match constant {
-        Constant::Flag(value) => writeln!(output, "bool {}", value as u8),
+        Constant::Flag(value) => writeln!(output, "bool {}", u8::from(value)),
         Constant::Bytes(v) => write_bytes(output, v),
         Constant::Vector(v) => write_vector(output, v),
     }

@@ -1,5 +1,6 @@
-// Tries `constant` on the libraries of standard input: a line for each of the first 13 constants of each executable, and one for the first that is not there.
-// Its stdin holds the outside libraries that have constants, and its stdout was made from the outside constants.
+// Tries `constant` on the libraries of standard input: a line for each of the first 13 constants of each
+// executable, and one for the first that is not there. Its stdin holds the outside libraries that have
+// constants, and its stdout was made from the outside constants.
 
 #![tactic(auto)]
 
@@ -9,7 +10,7 @@ use lines::write_constant;
 use std::io;
 use std::io::Write;
 use stream::each_library;
-use verifier::report_of;
+use verifier::check;
 use walk::constant;
 
 // Writes a constant, and answers whether it is there.
@@ -36,15 +37,12 @@ fn write_constants<W: Write>(output: &mut W, file: &[u8], executable: u32) -> io
     Ok(())
 }
 
-// The constants of one executable after another, and then the refusal of the first that is not there.
+// The constants of one executable after another, none of a refused library, and then the refusal of the first
+// that is not there.
 fn write_executables<W: Write>(output: &mut W, file: &[u8]) -> io::Result<()> {
-    let mut executables = 0;
-    for executable in 0..16 {
-        if report_of(file, executable).is_err() {
-            break;
-        }
+    let executables = check(file).map_or(0, |library| library.executables);
+    for executable in 0..executables {
         write_constants(output, file, executable)?;
-        executables = executable + 1;
     }
     write_next(output, file, executables, 0)?;
     Ok(())

@@ -1,16 +1,16 @@
-// Tries the layout of libraries: for each file that an argument names, a line with the first of refusals 1 to 8 and 13 to 17, or `ok`.
+// Tries the layout of libraries: for each file that an argument names, a line with the first of refusals 1 to
+// 8 and 13 to 17, or `ok`.
 
 #![tactic(auto)]
 
 use answer::Refusal;
 use container::{Limits, executable_count, executable_fault, library_fault, program_of};
-use inputs::{argument, open_file, read_what_comes};
-use std::env::Env;
+use inputs::{each_argument, open_file, read_what_comes};
 use std::io;
 use std::io::{Read, Write};
 use std::rt::Files;
 
-// The first fault of the DVLP, and of the executables that the header counts, of which there are at most 16 then.
+// The first fault of the DVLP, and of the executables that the header counts: at most 16 then.
 fn first_fault(file: &[u8]) -> Result<(), Refusal> {
     let limits = Limits {
         words: 512,
@@ -60,27 +60,10 @@ fn try_file<F: Files, W: Write, E: Write>(
     }
 }
 
-// Tries the file that an argument names, and answers whether there is such an argument.
-fn try_argument<R: Env + Files, W: Write, E: Write>(
-    rt: &R,
-    output: &mut W,
-    errors: &mut E,
-    index: usize,
-) -> io::Result<bool> {
-    let mut name = [0u8; 4096];
-    let Some(length) = argument(rt, index, &mut name) else {
-        return Ok(false);
-    };
-    try_file(rt, output, errors, &name[..length])?;
-    Ok(true)
-}
-
 fn main(rt: HostRuntime) -> io::Result<()> {
     let (mut output, mut errors) = (rt.stdout(), rt.stderr());
-    for index in 1..usize::MAX {
-        if !try_argument(&rt, &mut output, &mut errors, index)? {
-            break;
-        }
-    }
+    each_argument(&rt, |name| {
+        try_file(&rt, &mut output, &mut errors, name)
+    })?;
     Ok(())
 }

@@ -8,22 +8,15 @@ use std::io;
 use std::io::Write;
 use stream::each_library;
 
-fn write_listing<W: Write>(output: &mut W, file: &[u8]) -> io::Result<()> {
-    let mut text = [0u8; 40960];
-    let answer = list(file, &mut text);
-    write_text(output, answer, &text)
-}
-
-fn write_report<W: Write>(output: &mut W, file: &[u8]) -> io::Result<()> {
-    let mut text = [0u8; 1280];
-    let answer = summarize(file, &mut text);
-    write_text(output, answer, &text)
+// The buffers have room for a record for each of 512 words and of 16 executables.
+fn write_texts<W: Write>(output: &mut W, file: &[u8]) -> io::Result<()> {
+    write_text(output, file, &mut [0u8; 40960], list)?;
+    write_text(output, file, &mut [0u8; 1280], summarize)
 }
 
 fn main(rt: HostRuntime) -> io::Result<()> {
     each_library(&mut rt.stdin(), &mut rt.stdout(), |_, output, file| {
-        write_listing(output, file)?;
-        write_report(output, file)?;
+        write_texts(output, file)?;
         Ok(true)
     })
 }

@@ -1,5 +1,7 @@
-// Tries `walk` on the libraries of standard input, each with settings after it: for each walk its steps and its first 48 words.
-// The settings stand in the stream as libraries do, and an empty piece ends those of a library. Its stdin holds the outside libraries and settings, and its stdout was made from the outside walks.
+// Tries `walk` on the libraries of standard input, each with settings after it: for each walk its steps and
+// its first 48 words. The settings stand in the stream as libraries do, and an empty piece ends those of a
+// library. Its stdin holds the outside libraries and settings, and its stdout was made from the outside
+// walks.
 
 #![tactic(auto)]
 

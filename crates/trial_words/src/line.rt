@@ -47,7 +47,8 @@ fn write_fields<W: Write>(output: &mut W, fields: Fields) -> io::Result<()> {
     }
 }
 
-// The word that a word's fields encode to, and these: a known word's line starts with it, so that the line is right only if both ways are.
+// The word that a word's fields encode to, and these: a known word's line starts with it, so that the line is
+// right only if both ways are.
 fn both_ways(word: u32) -> Result<(u32, Fields), Refusal> {
     let fields = decode(word)?;
     Ok((encode(fields)?, fields))

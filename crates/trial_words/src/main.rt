@@ -1,10 +1,9 @@
-// Tries `instruction` on the words of standard input, four bytes each with the lowest first: a line for each word.
+// Tries `instruction` on the words of standard input, each four bytes with the lowest first: a line for each.
 
 #![tactic(auto)]
 
 mod line;
 
-use binary::{ByteOffset, u32_at};
 use inputs::read_full;
 use line::write_line;
 use std::io;
@@ -16,17 +15,18 @@ fn write_cut_short<W: Write>(output: &mut W, left: usize) -> io::Result<()> {
 
 // A line for each whole word, and one for the bytes that are left over.
 fn write_lines<W: Write>(output: &mut W, bytes: &[u8]) -> io::Result<()> {
-    for word in bytes.chunks_exact(4) {
-        write_line(output, u32_at(word, ByteOffset(0)))?;
+    let (words, left) = bytes.as_chunks::<4>();
+    for word in words {
+        write_line(output, u32::from_le_bytes(*word))?;
     }
-    let left = bytes.len() % 4;
-    if 0 < left {
-        write_cut_short(output, left)?;
+    if !left.is_empty() {
+        write_cut_short(output, left.len())?;
     }
     Ok(())
 }
 
-// Reads once and answers whether to go on. 4 divides the buffer's length, so no word lies in two reads; it is short so that the trial takes two.
+// Reads once and answers whether to go on. 4 divides the buffer's length, so no word lies in two reads; it is
+// short so that the trial takes two.
 fn write_some<R: Read, W: Write>(input: &mut R, output: &mut W) -> io::Result<bool> {
     let mut bytes = [0u8; 1024];
     let n = read_full(input, &mut bytes)?;

@@ -8,8 +8,8 @@ use borrow.Author.Tests.{lt-ltb, le-ltb}
 use Rattle.std.specs.Prelude.{Result, Ok, Err}
 use Rattle.answer.specs.Answers.{given, answered}
 use Rattle.answer.specs.Faults.{Fault, Nothing, At, or_else, first_in, faulted}
+use Rattle.answer.specs.Reasons.{number_of}
 use Rattle.answer.specs.declared.Refusal.{Refusal}
-use Rattle.answer.specs.declared.reason.Reason.TheVariants.{NotThere}
 use Rattle.container.specs.Program.{count_of, program_of, library_fault}
 use Rattle.container.specs.declared.programs.Program.{Program}
 use Rattle.verifier.specs.Executables.{one_executable, no_report, report_of}
@@ -151,18 +151,18 @@ module _ (file : List ℕ) where
   no_promise index t h = absurd (let z : ◌≡◌ {A = ℕ} 0 1 = cc in omega arith)
 
   module _ {r : Result Judged Refusal} (a : judged_as r ≡ judge_of file) (index : ℕ) where
-    pub report_refused : {e : Refusal} → r ≡ Err e → answered (Err e) ≡ report_answer file index
+    pub report_refused : {e : Refusal} → r ≡ Err e → (answered (Err e) ≡ report_answer file index) × Promises file index (Err e)
     unfolding report_answer judge_of
-    report_refused {e} h = let k : check_of file ≡ answered (Err e) = ap (λ x. x.verdict) (sym a ∙ ap judged_as h) in rw k
+    report_refused {e} h = let k : check_of file ≡ answered (Err e) = ap (λ x. x.verdict) (sym a ∙ ap judged_as h) in (rw k, no_promise index)
 
     module _ {j : Judged} (h : r ≡ Ok j) where
       checks : check_of file ≡ given j.library
       unfolding judge_of
       checks = ap (λ x. x.verdict) (sym a ∙ ap judged_as h)
 
-      pub report_missing : {e : Refusal} → e ≡ record { reason = NotThere; place = 0 } → j.library.executables ≤ index → (answered (Err e) ≡ report_answer file index) × Promises file index (Err e)
+      pub report_missing : {e : Refusal} → number_of e.reason ≡ 29 → e.place ≡ 0 → j.library.executables ≤ index → (answered (Err e) ≡ report_answer file index) × Promises file index (Err e)
       unfolding report_answer
-      report_missing g k = (rw (g, checks, le-ltb index j.library.executables k), no_promise index)
+      report_missing g z k = (rw (g, z, checks, le-ltb index j.library.executables k), no_promise index)
 
       pub below_16 : index < j.library.executables → index < 16
       below_16 k =

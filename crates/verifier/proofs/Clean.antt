@@ -1,4 +1,5 @@
--- A file has no fault exactly if it is clean: each test of the check says what its line of `Clean` says. Assumes nothing.
+-- A file has no fault exactly if it is clean: each test of the check says what its line of `Clean` says.
+-- Assumes nothing.
 use mathlib.Core.Path.{◌≡◌, refl, sym, ap, ◌∙◌}
 use mathlib.Core.Bool.{true, false, ◌&&◌}
 use mathlib.Core.List.{List, [], ◌∷◌}

@@ -1,4 +1,5 @@
--- Laws of lists that are filled from their start on, of tables of numbers, and of stores one after another. Assumes nothing.
+-- Laws of lists that are filled from their start on, of tables of numbers, and of stores one after another.
+-- Assumes nothing.
 use mathlib.Core.Path.{◌≡◌, refl, sym, ap, ◌∙◌}
 use mathlib.Core.List.{List, [], ◌∷◌, ◌++◌, append_assoc}
 use Prim.Native.Nat.{ℕ, zero, suc, ◌+◌, ◌*◌, ◌-◌, ◌≤◌, ◌<◌, min}
@@ -7,6 +8,7 @@ use native.Mathlib.Numerals.{add-one}
 use native.Mathlib.Omega.{arith}
 use lib.ListN.{length, get_or, set, take, drop, replicate, length-take, get_or-append}
 use lib.Seq.{sets, set_at, take_at, get_or-drop}
+use Rattle.std.proofs.lemmas.List.{same_lists, drop-replicate}
 use Rattle.binary.specs.Bytes.{u32_at}
 use Rattle.container.specs.declared.placement.Table.{Table}
 use Rattle.verifier.specs.Lists.{list_of, filled}
@@ -67,9 +69,16 @@ u32_drop s at k =
     let c : at + (k + 2 + 1) ≡ at + k + 2 + 1 = omega arith in
     rw (get_or-drop at s k 0, get_or-drop at s (k + 1) 0, get_or-drop at s (k + 2) 0, get_or-drop at s (k + 2 + 1) 0, a, b, c)
 
-pub table_drop : (file : List ℕ) (at size m n : ℕ) {rest : List ℕ} → rest ≡ drop at file
-    → filled (λ k. u32_at rest (k * size)) 0 m n 0 ≡ filled (λ k. u32_at file (at + k * size)) 0 m n 0
-table_drop file at size m n e = rw e (ap (λ (f : ℕ → ℕ). filled f 0 m n 0) (λ i k. u32_drop file at (k * size) i))
+-- the words of an opcode table, of more than 512 the first, and zeros after them
+pub words_then_zeros : (file : List ℕ) (t : Table) (xs : List ℕ) {bytes zeros : List ℕ} → bytes ≡ drop t.start.0 file → zeros ≡ replicate 512 0 → length xs ≡ min t.count 512
+    → ((k d : ℕ) → k < length xs → get_or xs k d ≡ u32_at bytes (k * 4)) → xs ++ drop (min t.count 512) zeros ≡ loaded_words file t
+words_then_zeros file t xs {bytes} {zeros} e z n each =
+    let f = word_at file t in
+    let m = min t.count 512 in
+    let same = same_lists xs (list_of f 0 m) (omega (arith, length_list f 0 m)) (λ k d h.
+    let i : 0 + k ≡ k = omega arith in
+    each k d h ∙ rw e (u32_drop file t.start.0 (k * 4)) ∙ sym (rw i at (list_at f 0 m k d (omega arith)))) in
+    rw (z, same, drop-replicate {X = ℕ} m 512 0)
 
 -- the words of an opcode table that 7 lets pass, out of their array
 module _ (file : List ℕ) (t : Table) {all : List ℕ} (d : all ≡ loaded_words file t) (few : t.count ≤ 512) where

@@ -1,4 +1,6 @@
--- Demand 3 of every report: a library without a fault has words that pass 9, 11 and 12, and mains that pass the flow check. Assumes nothing.
+-- Demand 3 of every report: a library without a fault has words that pass 9, 11 and 12, and mains that pass
+-- the flow check.
+-- Assumes nothing.
 use mathlib.Core.Path.{◌≡◌, ap}
 use mathlib.Core.List.{List}
 use Prim.Native.Nat.{ℕ, ◌+◌, ◌<◌}

@@ -1,4 +1,5 @@
--- Judging executables one after another: what is left of the answer at each stage of one of them. Assumes nothing.
+-- Judging executables one after another: what is left of the answer at each stage of one of them.
+-- Assumes nothing.
 use mathlib.Core.Path.{◌≡◌, refl, sym, ap, ◌∙◌}
 use mathlib.Core.Bool.{true, false}
 use mathlib.Core.List.{List}

@@ -1,4 +1,5 @@
--- What the check's answer says of a library that is taken out of it, for the calls that make the check first. Assumes nothing.
+-- What the check's answer says of a library that is taken out of it, for the calls that make the check first.
+-- Assumes nothing.
 use mathlib.Core.Path.{◌≡◌, sym, ap, ◌∙◌}
 use mathlib.Core.List.{List}
 use Prim.Native.Nat.{ℕ, ◌≤◌}

@@ -1,4 +1,5 @@
--- P1 to P12 of document 01 as one list, checked by one statement: whole files through the check, the report, the stepping rules and the constants. Assumes nothing.
+-- P1 to P12 of document 01 as one list, checked by one statement: whole files through the check, the report,
+-- the stepping rules and the constants. Assumes nothing.
 use mathlib.Core.Path.{◌≡◌, refl}
 use mathlib.Core.Bool.{Bool, true, false}
 use mathlib.Core.List.{List, [], ◌∷◌, ◌++◌, map}
@@ -40,7 +41,8 @@ u32s : List ℕ → List ℕ
 u32s [] = []
 u32s (n ∷ ns) = u32 n ++ u32s ns
 
--- an executable with main 0: its type, endmain, how far its offset in the header is off, and its masks, the output's in the upper half
+-- an executable with main 0: its type, endmain, how far its offset in the header is off, and its masks, the
+-- output's in the upper half
 record Exe : Type 0 where
   type : ℕ
   endmain : ℕ
@@ -94,7 +96,8 @@ file_of words exes t =
     ++ t.uniforms
     ++ (0 ∷ []))
 
--- what is expected: the total, and the steps of each run asked for; a refusal's number and place; the first component of constant 0
+-- what is expected: the total, and the steps of each run asked for; a refusal's number and place; the first
+-- component of constant 0
 data Outcome : Type 0 where
   measures : ℕ → List ℕ → Outcome
   refuses : ℕ → ℕ → Outcome
@@ -188,7 +191,8 @@ tried : map outcome trials ≡ map expected trials
 unfolding trials nop end expected outcome constant_in first_of reported steps steps_in asked file_of exe empty offsets sections u32s u32 report_answer check_of whole_fault library_fault header_fault program_fault bad_sizes misplaced_table misplaced overlapped_words words_meet words_fault word_fault one_executable executable_fault misplaced_section bad_entry misplaced_tables overlapped_by_tables flow_of flow_fault main_trace trace trace_to region visit parts fault_at spare size own_words own_from control_of decode_of format_of operations operators_of descriptor_of constant_fault convert_of good_float24 f32_bits report_of first_in list_of ones_in names_end meets0 run step execute break arrive
 tried = refl
 
--- The order of the refusals, and 29: the words, the executables, the tables, the executable that is asked for, and the total or the refusal
+-- The order of the refusals, and 29: the words, the executables, the tables, the executable that is asked
+-- for, and the total or the refusal
 record Order : Type 0 where
   words : List ℕ
   exes : List Exe
@@ -205,7 +209,8 @@ good = exe 0 2 0
 just : List ℕ → Tables
 just cs = record { constants = cs; labels = []; outputs = []; uniforms = [] }
 
--- entries: a bool with ID 0; a label, by its address; an output with register 0 and mask 1, by its type; a vertex input, by its last register
+-- entries: a bool with ID 0; a label, by its address; an output with register 0 and mask 1, by its type; a
+-- vertex input, by its last register
 bools : ℕ → List ℕ
 bools value = 0 ∷ value ∷ 0 ∷ 0 ∷ 0 ∷ []
 
@@ -252,7 +257,8 @@ ordered : map (λ o. let file = file_of o.words o.exes o.tables in reported file
 unfolding orders order good just bools label output uniform nop end reported steps steps_in asked file_of exe empty offsets sections u32s u32 report_answer check_of whole_fault library_fault header_fault program_fault bad_sizes misplaced_table misplaced overlapped_words words_meet words_fault word_fault one_executable executable_fault misplaced_section bad_entry misplaced_tables overlapped_by_tables flow_of flow_fault main_trace trace trace_to region visit parts fault_at spare size own_words own_from control_of decode_of format_of operations operators_of descriptor_of constant_fault convert_of good_float24 f32_bits report_of first_in list_of ones_in names_end meets0 good_label label_fault good_output output_fault in_one_kind good_uniform uniform_fault run step execute break arrive
 ordered = refl
 
--- The numbers of sixteen reports: type, main, endmain, ones in the input mask, ones in the output mask, constants, distinct words visited, total
+-- The numbers of sixteen reports: type, main, endmain, ones in the input mask, ones in the output mask,
+-- constants, distinct words visited, total
 numbers : Report → List ℕ
 numbers r = r.shader_type ∷ r.main.0 ∷ r.endmain.0 ∷ r.inputs ∷ r.outputs ∷ r.constants ∷ r.words ∷ r.total ∷ []
 
@@ -267,7 +273,8 @@ example : numbers_of (0x4c000000 ∷ 0x9cc00c00 ∷ 0x02225100 ∷ nop ∷ end �
 unfolding numbers_of zeros numbers just bools nop end judge_of file_of exe empty offsets sections u32s u32 check_of whole_fault library_fault header_fault program_fault bad_sizes misplaced_table misplaced overlapped_words words_meet words_fault word_fault one_executable executable_fault misplaced_section bad_entry misplaced_tables overlapped_by_tables flow_of flow_fault main_trace trace trace_to region visit parts fault_at spare size own_words own_from control_of decode_of format_of operations operators_of descriptor_of constant_fault convert_of good_float24 f32_bits report_of first_in list_of ones_in names_end meets0
 example = refl
 
--- two executables with two constants each, three inputs and two outputs, of five words with two visited twice; then the same with a fault in executable 1: all are zeros
+-- two executables with two constants each, three inputs and two outputs, of five words with two visited
+-- twice; then the same with a fault in executable 1: all are zeros
 judged : map (λ e. numbers_of (0x90000c02 ∷ 0x90000c02 ∷ end ∷ nop ∷ nop ∷ []) (record { type = 0; endmain = 3; off = 0; masks = 0x00030007 } ∷ exe 1 e 0 ∷ []) (just (bools 1 ++ bools 0))) (3 ∷ 2 ∷ [])
     ≡ ((0 ∷ 0 ∷ 3 ∷ 3 ∷ 2 ∷ 2 ∷ 5 ∷ 7 ∷ []) ∷ (1 ∷ 0 ∷ 3 ∷ 1 ∷ 1 ∷ 2 ∷ 5 ∷ 7 ∷ []) ∷ replicate 14 zeros) ∷ replicate 16 zeros ∷ []
 unfolding numbers_of zeros numbers just bools nop end judge_of file_of exe empty offsets sections u32s u32 check_of whole_fault library_fault header_fault program_fault bad_sizes misplaced_table misplaced overlapped_words words_meet words_fault word_fault one_executable executable_fault misplaced_section bad_entry misplaced_tables overlapped_by_tables flow_of flow_fault main_trace trace trace_to region visit parts fault_at spare size own_words own_from control_of decode_of format_of operations operators_of descriptor_of constant_fault convert_of good_float24 f32_bits report_of first_in list_of ones_in names_end meets0

@@ -1,4 +1,5 @@
--- A clean file: one line for each row of document 01's table of refusals, 1 to 28, that says that it does not apply ('Numbers given back').
+-- A clean file: one line for each row of document 01's table of refusals, 1 to 28, that says that it does not
+-- apply ('Numbers given back').
 -- The check accepts exactly these files: proofs/Clean.antt, clean and accepted.
 -- Assumes nothing.
 use Rattle.std.specs.Prelude.{◌≡◌, true, false, List, [], ◌∷◌, ℕ, ◌+◌, ◌*◌, ◌-◌, ◌%◌, ◌≤◌, ◌<◌, length, Some}
@@ -26,7 +27,8 @@ use Rattle.tables.specs.Names.{good_name}
 use Rattle.verifier.specs.Executables.{entry_at, symbols_of, rules_for}
 use Rattle.verifier.specs.Words.{word_at, words_of}
 
--- 'A table with count 0 has no offset to test'; any other starts at a multiple of align from its section's start, and its entries of size bytes end inside the file
+-- 'A table with count 0 has no offset to test'; any other starts at a multiple of align from its section's
+-- start, and its entries of size bytes end inside the file
 pub record InPlace (align size bytes : ℕ) (t : Table) : Type 0 where
   pub aligned : t.offset % align ≡ 0
   pub inside : t.start.0 + t.count * size ≤ bytes
@@ -38,7 +40,8 @@ Placed align size bytes t = (t.count ≡ 0 → ⊥) → InPlace align size bytes
 abbrev pub Apart : Table → Range → Type 0
 Apart words r = (k : ℕ) → Holds (table_range 4 words) k → Holds r k → ⊥
 
--- the tables of the DVLP, in place; the opcode table apart from the header and the DVLP, which are the file's first bytes, and from the others
+-- the tables of the DVLP, in place; the opcode table apart from the header and the DVLP, which are the file's
+-- first bytes, and from the others
 pub record ProgramTables (file : List ℕ) (p : Program) : Type 0 where
   pub words : Placed 4 4 (length file) p.words
   pub descriptors : Placed 4 8 (length file) p.descriptors
@@ -99,7 +102,8 @@ pub record CleanLibrary (file : List ℕ) : Type 0 where
   pub no6 : named DVLP file (program_base file) ≡ true
   -- words 0 or over 512, or descriptors over 128
   pub no7 : (1 ≤ (program_of file).words.count) × ((program_of file).words.count ≤ 512) × ((program_of file).descriptors.count ≤ 128)
-  -- a DVLP table unaligned or outside the file, or the opcode table overlapping the header, DVLP or another DVLP table
+  -- a DVLP table unaligned or outside the file, or the opcode table overlapping the header, DVLP or another
+  -- DVLP table
   pub no8 : ProgramTables file (program_of file)
 
 -- 9 to 12 of a word, in a library of so many descriptors
@@ -113,7 +117,8 @@ pub record CleanWord (descriptors w : ℕ) : Type 0 where
   -- LOOP register over 3
   pub no12 : (r : ℕ) (dst : WordAddress) → control_of w ≡ Loop r dst → r ≤ 3
 
--- the words as a program with so many descriptors; the visits of an executable's main, for which the flow check looks at none
+-- the words as a program with so many descriptors; the visits of an executable's main, for which the flow
+-- check looks at none
 abbrev pub code_in : List ℕ → Program → ℕ → Code
 code_in file p descriptors = code_of (words_of file p.words) descriptors
 

@@ -1,4 +1,5 @@
--- An executable: refusals 13 to 28 in their order, and its report (document 01, 'Numbers given back', 'Listing and report').
+-- An executable: refusals 13 to 28 in their order, and its report (document 01, 'Numbers given back',
+-- 'Listing and report').
 -- Assumes nothing.
 use Rattle.std.specs.Prelude.{ℕ, zero, suc, ◌+◌, ◌*◌, ◌/◌, ◌%◌, List, eqb, take, drop}
 use Rattle.answer.specs.Answers.{Answer, given, refused}
@@ -88,7 +89,8 @@ no_report =
       total = 0;
     }
 
--- 'type, main, endmain, ones in the input mask, ones in the output mask, constants, distinct words visited, total'; zeros if the flow check refuses
+-- 'type, main, endmain, ones in the input mask, ones in the output mask, constants, distinct words visited,
+-- total'; zeros if the flow check refuses
 abbrev pub report_with : Executable → Answer Measured → Report
 report_with e (given m) =
     record {

@@ -1,4 +1,5 @@
--- What the public calls promise beside their answers: the check accepts exactly the clean files (demand 2), and a report holds for every run of its executable (demand 3).
+-- What the public calls promise beside their answers: the check accepts exactly the clean files (demand 2),
+-- and a report holds for every run of its executable (demand 3).
 -- Assumes nothing.
 use Rattle.std.specs.Prelude.{◌≡◌, List, ℕ, ◌≤◌, ◌<◌, get_or, Result, Ok}
 use Rattle.answer.specs.declared.Refusal.{Refusal}
@@ -27,8 +28,9 @@ code_for file = code_in file (program_of file) (program_of file).descriptors.cou
 abbrev pub start_for : List ℕ → ℕ → State
 start_for file index = start (executable_of file index).main.0 (executable_of file index).endmain.0
 
--- a report of executable index: for all bools, all bytes x and every truth list the whole run stays inside the tables, with at most 4 calls, 8 IFs and 2 LOOPs open, and ends within the total;
--- the total is at most 4,000,000, and is what the visits add to it
+-- a report of executable index: for all bools, all bytes x and every truth list the whole run stays inside
+-- the tables, with at most 4 calls, 8 IFs and 2 LOOPs open, and ends within the total; the total is at most
+-- 4,000,000, and is what the visits add to it
 pub record Promised (file : List ℕ) (index : ℕ) (t : Report) : Type 0 where
   pub runs : (v : Settings) → ((r : ℕ) → r ≤ 3 → v.ints r < 256)
       → Whole (code_for file) v 4 8 2 t.total (start_for file index)

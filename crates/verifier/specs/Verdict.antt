@@ -1,4 +1,5 @@
--- The whole check, and the answers of the public calls (document 01, 'Numbers given back', its last paragraph).
+-- The whole check, and the answers of the public calls (document 01, 'Numbers given back', its last
+-- paragraph).
 -- Assumes nothing.
 use Rattle.std.specs.Prelude.{ℕ, List, replicate, Result, Ok, Err}
 use Rattle.answer.specs.Answers.{Answer, given, refused, or_missing}

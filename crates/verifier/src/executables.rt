@@ -7,8 +7,8 @@ ghost use Rattle.verifier.specs.Lists.{filled};
 ghost use Rattle.verifier.specs.Inside.{Loaded};
 ghost use Rattle.verifier.specs.Verdict.{answer_by};
 
-use crate::earlier::{Earlier, flow_after, good_in, names_after, none_earlier};
-use crate::verdict::{Library, Report, no_report};
+use crate::earlier::{Earlier, flow_after, good_entries, names_after};
+use crate::verdict::{Library, Report};
 use answer::Refusal;
 use binary::{ByteOffset, tail};
 use container::{Executable, Table, executable_fault, executable_of};
@@ -41,8 +41,10 @@ fn report_with(e: Executable, measured: Measured) -> Report
     }
 }
 
-// 13 to 28 of the executables from `first` up to `end`, in their order, and the reports of these: one executable alone is a range of one.
-// Good entries, names and the flow are taken over from the executable before, where it has the same. Reports are answered exactly where these have no fault; of the executables before and after them nothing is said.
+// 13 to 28 of the executables from `first` up to `end`, in their order, and the reports of these: one
+// executable alone is a range of one. Good entries, names and the flow are taken over from the executable
+// before, where it has the same. Reports are answered exactly where these have no fault; of the executables
+// before and after them nothing is said.
 pub(crate) fn judge_executables(
     file: &[u8],
     library: Library,
@@ -55,8 +57,8 @@ pub(crate) fn judge_executables(
 {
     let count = library.program.words.count;
     let mut found = Ok(());
-    let mut reports = [no_report(); 16];
-    let mut earlier = none_earlier(file, words);
+    let mut reports = [Report::default(); 16];
+    let mut earlier = None;
     'executables: for index in first..end {
         let place = index * 65536;
         found = executable_fault(file, library.program.words, index, 1, place);
@@ -64,18 +66,15 @@ pub(crate) fn judge_executables(
             break 'executables;
         }
         let e = executable_of(file, index);
-        let good = earlier.executable;
         let names = names_after(file, earlier, e.symbols);
-        let same_names = names == earlier.names;
-        let known = good_in(true, good.constants, e.constants);
-        for entry in known..e.constants.count {
+        let known = good_entries(earlier, e, names);
+        for entry in known.constants..e.constants.count {
             found = constant_fault(entry_of(file, e.constants, 20, entry), place + entry);
             if found.is_err() {
                 break 'executables;
             }
         }
-        let known = good_in(same_names, good.labels, e.labels);
-        for entry in known..e.labels.count {
+        for entry in known.labels..e.labels.count {
             found = label_fault(
                 entry_of(file, e.labels, 16, entry),
                 count,
@@ -86,22 +85,19 @@ pub(crate) fn judge_executables(
                 break 'executables;
             }
         }
-        let known = good_in(true, good.outputs, e.outputs);
-        for entry in known..e.outputs.count {
+        for entry in known.outputs..e.outputs.count {
             found = output_fault(entry_of(file, e.outputs, 8, entry), place + entry);
             if found.is_err() {
                 break 'executables;
             }
         }
-        let known = good_in(same_names, good.uniforms, e.uniforms);
-        for entry in known..e.uniforms.count {
+        for entry in known.uniforms..e.uniforms.count {
             found = uniform_fault(entry_of(file, e.uniforms, 8, entry), names, place + entry);
             if found.is_err() {
                 break 'executables;
             }
         }
-        let flow = flow_after(words, earlier, e);
-        match flow {
+        match flow_after(words, earlier, e) {
             Err(refusal) => {
                 found = Err(refusal.reason.at(place + refusal.place));
                 break 'executables;
@@ -109,11 +105,11 @@ pub(crate) fn judge_executables(
             Ok(measured) => {
                 let i = (index - first) as usize;
                 reports[i] = report_with(e, measured);
-                earlier = Earlier {
+                earlier = Some(Earlier {
                     executable: e,
                     names,
-                    flow,
-                };
+                    measured,
+                });
             }
         }
     }

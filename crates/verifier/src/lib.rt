@@ -7,6 +7,6 @@ mod executables;
 mod verdict;
 mod words;
 
-pub use earlier::Earlier;
+pub use earlier::{Earlier, GoodEntries};
 pub use verdict::{Judged, Library, Report, check, judge, report_of};
 pub use words::words_of;

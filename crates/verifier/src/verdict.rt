@@ -1,7 +1,6 @@
 // The verdict on a whole library, and the reports of its executables.
 ghost use Rattle.std.specs.Prelude.{◌≡◌};
-ghost use Rattle.answer.specs.Answers.{answered};
-ghost use Rattle.verifier.specs.Executables.{no_report};
+ghost use Rattle.answer.specs.Answers.{answered, given, or_missing};
 ghost use Rattle.verifier.specs.Promise.{AcceptsClean, Promises, PromisesAll};
 ghost use Rattle.verifier.specs.Verdict.{check_of, judge_of, judged_as, report_answer};
 
@@ -18,8 +17,21 @@ pub struct Library {
     pub program: Program,
 }
 
-// The report of an executable: its type, main and endmain, the ones in its input and output masks, its constants, the distinct words visited, the total.
-#[derive(Clone, Copy)]
+impl Library {
+    // 29 for an executable that is not there.
+    pub fn require(self, executable: u32) -> Result<(), Refusal>
+        ensures { answered result ≡ or_missing executable self.executables (given tt) }
+    {
+        if self.executables <= executable {
+            return Err(Reason::NotThere.at(0));
+        }
+        Ok(())
+    }
+}
+
+// The report of an executable: its type, main and endmain, the ones in its input and output masks, its
+// constants, the distinct words visited, the total.
+#[derive(Clone, Copy, Default)]
 pub struct Report {
     pub shader_type: u8,
     pub main: WordAddress,
@@ -36,21 +48,6 @@ pub struct Report {
 pub struct Judged {
     pub library: Library,
     pub reports: [Report; 16],
-}
-
-pub(crate) fn no_report() -> Report
-    ensures { result ≡ no_report }
-{
-    Report {
-        shader_type: 0,
-        main: WordAddress(0),
-        endmain: WordAddress(0),
-        inputs: 0,
-        outputs: 0,
-        constants: 0,
-        words: 0,
-        total: 0,
-    }
 }
 
 // One pass over the library: 1 to 8, then 9 to 12, then 13 to 28 of each executable.
@@ -93,9 +90,7 @@ pub fn report_of(file: &[u8], executable: u32) -> Result<Report, Refusal>
     ensures runs { Promises file.now executable result }
 {
     let judged = judge(file)?;
-    if judged.library.executables <= executable {
-        return Err(Reason::NotThere.at(0));
-    }
+    judged.library.require(executable)?;
     let reports = judged.reports;
     Ok(reports[executable as usize])
 }

@@ -10,8 +10,9 @@ use lib.ListN.{length, get_or}
 use lib.Seq.{sets}
 use borrow.Author.Tests.{lt-ltb, le-ltb}
 use Rattle.std.specs.Prelude.{Result, Ok, Err}
+use Rattle.answer.specs.Reasons.{number_of}
 use Rattle.answer.specs.declared.Refusal.{Refusal}
-use Rattle.answer.specs.declared.reason.Reason.TheVariants.{NotThere, BufferTooShort}
+use Rattle.answer.specs.declared.reason.Reason.TheVariants.{BufferTooShort}
 use Rattle.answer.specs.Answers.{answered, given}
 use Rattle.container.specs.Executable.{executable_of}
 use Rattle.container.specs.Program.{program_of}
@@ -74,9 +75,9 @@ module _ (file : List ℕ) (index : ℕ) (bools ints truth : List ℕ) where
   walk_refused old c h = let a = refused_check file c h in (rw a, (rw a, no_steps))
 
   module _ {l : Library} (t : Taken file l) where
-    pub walk_missing : {f : Refusal} (old : List ℕ) → f ≡ record { reason = NotThere; place = 0 } → l.executables ≤ index → Told (Err f) old old
+    pub walk_missing : {f : Refusal} (old : List ℕ) → number_of f.reason ≡ 29 → f.place ≡ 0 → l.executables ≤ index → Told (Err f) old old
     unfolding walk_fetches
-    walk_missing old f h = (rw (f, t.answer, le-ltb index l.executables h), (rw (t.answer, le-ltb index l.executables h), no_steps))
+    walk_missing old f z h = (rw (f, z, t.answer, le-ltb index l.executables h), (rw (t.answer, le-ltb index l.executables h), no_steps))
 
     module _ (there : index < l.executables) where
       short : (length bools < 16) ⊎ (length ints < 4) → (ltb (length bools) 16 || ltb (length ints) 4) ≡ true

@@ -17,8 +17,9 @@ use Rattle.verifier.specs.Executables.{entry_at}
 use Rattle.verifier.specs.Verdict.{check_of}
 use Rattle.verifier.specs.declared.verdict.Library.{Library}
 use Rattle.walk.specs.Constants.{constant_answer, Hands}
-use Rattle.std.specs.Prelude.{Option, Some, None, Result, Ok, Err, ok_or}
+use Rattle.std.specs.Prelude.{Option, Some, None, Result, Err, ok_or}
 use Rattle.answer.specs.Answers.{answered}
+use Rattle.answer.specs.Reasons.{number_of}
 use Rattle.answer.specs.declared.Refusal.{Refusal}
 use Rattle.answer.specs.declared.reason.Reason.TheVariants.{NotThere}
 
@@ -40,18 +41,18 @@ module _ (file : List ℕ) (index n : ℕ) where
       let a = refused_check file c h in
       (rw a, λ l g. absurd (let z : ◌≡◌ {A = ℕ} 0 1 = cc (sym a ∙ g) in omega arith))
 
-  not_18 : {f : Refusal} → f ≡ record { reason = NotThere; place = 0 } → Hands file (Err f)
-  not_18 f l g q h = absurd (let z : ◌≡◌ {A = ℕ} 29 18 = cc (rw f at h) in omega arith)
+  not_18 : (f : Refusal) → number_of f.reason ≡ 29 → Hands file (Err f)
+  not_18 f n l g q h = absurd (let z : ◌≡◌ {A = ℕ} 29 18 = cc (rw n at h) in omega arith)
 
   module _ {l : Library} (t : Taken file l) where
-    pub no_executable_lem : {f : Refusal} → f ≡ record { reason = NotThere; place = 0 } → l.executables ≤ index → Told (Err f)
+    pub no_executable_lem : (f : Refusal) → number_of f.reason ≡ 29 → f.place ≡ 0 → l.executables ≤ index → Told (Err f)
     unfolding constant_answer
-    no_executable_lem f h = (rw (f, t.answer, le-ltb index l.executables h), not_18 f)
+    no_executable_lem f g z h = (rw (g, z, t.answer, le-ltb index l.executables h), not_18 f g)
 
     module _ (there : index < l.executables) where
       pub no_constant : {f : Refusal} → f ≡ record { reason = NotThere; place = 0 } → e.constants.count ≤ n → Told (Err f)
       unfolding constant_answer
-      no_constant f h = (rw (f, t.answer, lt-ltb index l.executables there, le-ltb n e.constants.count h), not_18 f)
+      no_constant {f} g h = (rw (g, t.answer, lt-ltb index l.executables there, le-ltb n e.constants.count h), not_18 f (ap (λ (r : Refusal). number_of r.reason) g))
 
       module _ (h : n < e.constants.count) where
         -- the check has refused every bad entry

@@ -1,8 +1,9 @@
--- The engine's loop: where a run stands after some steps, and what is left of it. All that is known of the run is that it ends as a whole. Assumes nothing.
+-- The engine's loop: where a run stands after some steps, and what is left of it. All that is known of the
+-- run is that it ends as a whole. Assumes nothing.
 use mathlib.Core.Path.{◌≡◌, refl, sym, ap, ◌∙◌}
 use mathlib.Core.Bool.{Bool, true, false, ◌&&◌}
 use mathlib.Core.List.{List, [], ◌∷◌, ◌++◌, append_assoc, append-nil}
-use Rattle.std.proofs.Common.{Option, Some, None}
+use Rattle.std.proofs.Common.{Some, None}
 use Prim.Native.Nat.{ℕ, zero, suc, ◌+◌, ◌≤◌, ◌<◌}
 use native.Mathlib.Omega.{arith}
 use lib.Dec.{ltb}
@@ -17,11 +18,12 @@ use Rattle.instruction.specs.Control.{control_of}
 use Rattle.instruction.specs.declared.flow_control.Control.{Control}
 use Rattle.instruction.specs.declared.flow_control.Control.TheVariants.{Plain}
 use Rattle.verifier.proofs.Lists.{filled_at, sets_append}
-use Rattle.walk.specs.Inside.{frame, shown, standing, view, move_of, arrive_by, controls_of, Runs, fetches_by}
+use Rattle.walk.specs.Inside.{frame, shown, standing, view, move_of, left_after, followed, controls_of, Runs, fetches_by}
+use Rattle.walk.specs.declared.frames.After.TheVariants.{GoOn}
 use Rattle.walk.specs.declared.frames.Frame.{Frame}
-use Rattle.walk.specs.Walk.{indices_of, fetches_in}
-use Rattle.walk.specs.declared.moves.Move.{Move}
-use Rattle.walk.proofs.Steps.{Leads, Follows, halts, follows, shown_few}
+use Rattle.walk.specs.Walk.{indices_of, fetches_in, truths_in}
+use Rattle.walk.proofs.Steps.{Leads, Follows, halts, finished, follows, left_then, read_after, shown_few}
+use Rattle.walk.proofs.Truths.{Left}
 
 words_length : (l : List State) → length (indices_of l) ≡ length l
 words_length [] = refl
@@ -38,10 +40,9 @@ unstuck true h f = h
 unstuck false h f = absurd (f h)
 
 -- what the engine's arithmetic needs before each step
-pub record Bounds (fs : List Frame) (word read steps : ℕ) : Type 0 where
+pub record Bounds (fs : List Frame) (word steps : ℕ) : Type 0 where
   pub inside : word < 512
   pub shallow : length fs < 16
-  pub few : read ≤ steps
   pub early : steps < 4000000
 
 module _ (ws : List ℕ) (v : Settings) where
@@ -106,9 +107,10 @@ module _ (ws : List ℕ) (v : Settings) where
   tail : {P : State → Type 0} {s : State} {l : List State} → All P (s ∷ l) → All P l
   tail (each p k) = k
 
-  -- before a step: the state that is shown, and the states after it; the words fetched before, and what was written of them
+  -- before a step: the state that is shown, and the states after it; the words fetched before, and what was
+  -- written of them
   module _ (all old : List ℕ) where
-    pub record Going (fs : List Frame) (word read steps : ℕ) (list : List ℕ) : Type 0 where
+    pub record Going (fs : List Frame) (word steps : ℕ) (left list : List ℕ) : Type 0 where
       pub descriptors : ℕ
       pub state : State
       pub rest : List State
@@ -116,14 +118,13 @@ module _ (ws : List ℕ) (v : Settings) where
       pub runs : run C v bound state ≡ done (state ∷ rest)
       pub kept : All (Good (code_of ws descriptors) 4 8 2) (state ∷ rest)
       pub seen : standing word fs ≡ view state
-      pub count : state.read ≡ read
-      pub few : read ≤ steps
+      pub outcomes : Left v state.read left
       pub before : List ℕ
       pub made : length before ≡ steps
       pub whole : all ≡ before ++ indices_of (state ∷ rest)
       pub written : list ≡ sets old 0 before
 
-    module _ {fs : List Frame} {word read steps : ℕ} {list : List ℕ} (g : Going fs word read steps list) where
+    module _ {fs : List Frame} {word steps : ℕ} {left list : List ℕ} (g : Going fs word steps left list) where
       here : word ≡ g.state.word
       here = ap (λ s. s.word) g.seen
 
@@ -153,25 +154,33 @@ module _ (ws : List ℕ) (v : Settings) where
       fetched : {l : List State} → g.rest ≡ l → all ≡ g.before ++ word ∷ [] ++ indices_of l
       fetched e = g.whole ∙ rw (here, e) (sym (append_assoc g.before (g.state.word ∷ []) _))
 
-      abbrev moved : Option (Move × ℕ)
-      moved = move_of v (control_of (get_or ws word 0)) word read
+      abbrev control : Control
+      control = control_of (get_or ws word 0)
 
-      pub moved_is : {controls : List Control} {a : Option (Move × ℕ)} (d : Control) → controls ≡ controls_of ws → a ≡ move_of v (get_or controls word d) word read → moved ≡ a
-      moved_is d e h = sym (h ∙ rw (e, control_at ws word d word_inside))
+      control_is : {controls : List Control} (d : Control) → controls ≡ controls_of ws → get_or controls word d ≡ control
+      control_is d e = rw e (control_at ws word d word_inside)
 
-      follow : Follows (shown g.state.opens) read (executed g.state) moved
-      follow = rw (here, sym g.count) (follows v (control_of (get_or ws g.state.word 0)) g.state.word g.state.opens g.state.read)
+      follow : Follows (read_after control g.state.read) (executed g.state) (followed fs (move_of v control (word + 1) left))
+      follow =
+          let frames : fs ≡ shown g.state.opens = ap (λ y. y.frames) g.seen in
+          rw (here, frames) (follows v (control_of (get_or ws g.state.word 0)) g.state.word g.state.opens g.state.read left g.outcomes)
 
       -- a move leads to the next state
-      pub goes_on : {m : Move} {read' : ℕ} {fs' : List Frame} {word' : ℕ} {list' : List ℕ} → moved ≡ Some (m, read') → standing word' fs' ≡ arrive_by fs m
-          → list' ≡ set list steps word → Going fs' word' read' (steps + 1) list'
-      goes_on {m} {read'} {fs'} {word'} {list'} e a d = by (then_on g.bound g.state g.runs) g.kept (rw e at follow)
+      pub goes_on : {controls : List Control} {fs' : List Frame} {word' : ℕ} {left' list' : List ℕ} (d : Control) → controls ≡ controls_of ws
+          → Some (standing word' fs') ≡ followed fs (move_of v (get_or controls word d) (word + 1) left)
+          → left' ≡ left_after (get_or controls word d) left → list' ≡ set list steps word → Going fs' word' (steps + 1) left' list'
+      goes_on {controls} {fs'} {word'} {left'} {list'} d is e o w =
+          let reached : Some (standing word' fs') ≡ followed fs (move_of v control (word + 1) left) = rw (control_is d is) at e in
+          by (then_on g.bound g.state g.runs) g.kept (rw (sym reached) at follow)
         where
-          by : Then g.state g.rest → All (Good (code_of ws g.descriptors) 4 8 2) (g.state ∷ g.rest) → Leads (shown g.state.opens) read (executed g.state) m read' → Going fs' word' read' (steps + 1) list'
-          by (last x r) k leads = absurd (true_not_false (sym (ap halts x) ∙ leads.on))
+          rest : left' ≡ left_after control left
+          rest = rw (control_is d is) at o
+
+          by : Then g.state g.rest → All (Good (code_of ws g.descriptors) 4 8 2) (g.state ∷ g.rest) → Leads (read_after control g.state.read) (executed g.state) (standing word' fs')
+              → Going fs' word' (steps + 1) left' list'
+          by (last x r) k leads = absurd (true_not_false (sym (ap finished x) ∙ leads.on))
           by (more n t l x r q) k leads =
               let shows = leads.next t x in
-              let frames : fs ≡ shown g.state.opens = ap (λ y. y.frames) g.seen in
               record {
                 descriptors = g.descriptors;
                 state = t;
@@ -179,18 +188,20 @@ module _ (ws : List ℕ) (v : Settings) where
                 bound = n;
                 runs = q;
                 kept = rw r at (tail k);
-                seen = a ∙ rw frames shows.seen;
-                count = shows.count;
-                few = omega (arith, g.few, leads.few);
+                seen = shows.seen;
+                outcomes = rw (shows.count, rest) (left_then v control g.state.read left g.outcomes);
                 before = g.before ++ word ∷ [];
                 made = length-append g.before (word ∷ []) ∙ omega (arith, g.made);
                 whole = fetched r;
-                written = d ∙ noted;
+                written = w ∙ noted;
               }
 
       -- END is the last word
-      pub ended : moved ≡ None → (steps + 1 ≡ length all) × (set list steps word ≡ sets old 0 all)
-      ended e = by (then_on g.bound g.state g.runs) (rw e at follow)
+      pub ended : {controls : List Control} (d : Control) → controls ≡ controls_of ws → None ≡ followed fs (move_of v (get_or controls word d) (word + 1) left)
+          → (steps + 1 ≡ length all) × (set list steps word ≡ sets old 0 all)
+      ended d is e =
+          let reached : None ≡ followed fs (move_of v control (word + 1) left) = rw (control_is d is) at e in
+          by (then_on g.bound g.state g.runs) (rw (sym reached) at follow)
         where
           by : Then g.state g.rest → halts (executed g.state) ≡ true → (steps + 1 ≡ length all) × (set list steps word ≡ sets old 0 all)
           by (last x r) h =
@@ -207,16 +218,15 @@ module _ (ws : List ℕ) (v : Settings) where
     few_steps : length (fetches_by ws v m e) ≤ 4000000
     few_steps = omega (arith, ap length all_is, words_length r.whole.fetched, r.whole.steps)
 
-    pub bounds : {old : List ℕ} {fs : List Frame} {word read steps : ℕ} {list : List ℕ} → Going (fetches_by ws v m e) old fs word read steps list → Bounds fs word read steps
+    pub bounds : {old : List ℕ} {fs : List Frame} {word steps : ℕ} {left list : List ℕ} → Going (fetches_by ws v m e) old fs word steps left list → Bounds fs word steps
     bounds g = record {
       inside = omega (arith, word_inside _ _ g, r.few);
       shallow = omega (arith, shallow _ _ g);
-      few = g.few;
       early = omega (arith, early _ _ g, few_steps);
     }
 
-    pub begins : (old : List ℕ) {fs : List Frame} → fs ≡ frame e e 0 ∷ [] → Going (fetches_by ws v m e) old fs m 0 0 old
-    begins old a =
+    pub begins : (old : List ℕ) {fs : List Frame} {left : List ℕ} → fs ≡ frame e (GoOn e) ∷ [] → truths_in left ≡ v.truths → Going (fetches_by ws v m e) old fs m 0 left old
+    begins old a o =
         let q = sym (run_same r.descriptors 4000000 (start m e)) ∙ r.whole.ends in
         let f = first 4000000 (start m e) q in
         record {
@@ -227,8 +237,7 @@ module _ (ws : List ℕ) (v : Settings) where
           runs = q ∙ ap done f.same;
           kept = rw f.same at r.whole.kept;
           seen = ap (standing m) a;
-          count = refl;
-          few = omega arith;
+          outcomes = o;
           before = [];
           made = refl;
           whole = all_is ∙ ap indices_of f.same;

@@ -1,4 +1,5 @@
--- Whole files through the walk and the constant call: every condition with and without truth, lists that are too short and too long, the refusals in their order, and a constant of each kind. Assumes nothing.
+-- Whole files through the walk and the constant call: every condition with and without truth, lists that are
+-- too short and too long, the refusals in their order, and a constant of each kind. Assumes nothing.
 use mathlib.Core.Path.{◌≡◌, refl}
 use mathlib.Core.Bool.{true}
 use mathlib.Core.List.{List, [], ◌∷◌, ◌++◌, map}

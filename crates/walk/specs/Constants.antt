@@ -11,7 +11,8 @@ use Rattle.verifier.specs.Executables.{entry_at}
 use Rattle.verifier.specs.Verdict.{check_of}
 use Rattle.verifier.specs.declared.verdict.Library.{Library}
 
--- 'a bool, four bytes or four f32 values', as `tables` converts an entry. The check before refuses a file with a bad one (`Hands`, below)
+-- 'a bool, four bytes or four f32 values', as `tables` converts an entry. The check before refuses a file
+-- with a bad one (`Hands`, below)
 abbrev pub constant_by : Option Constant → Answer Constant
 constant_by (Some c) = given c
 constant_by None = refused 18 0

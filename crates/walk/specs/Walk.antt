@@ -24,7 +24,8 @@ truths_in (b ∷ bs) = non_zero b ∷ truths_in bs
 abbrev pub settings_of : List ℕ → List ℕ → List ℕ → Settings
 settings_of bools ints truth = record { bools = λ b. non_zero (get_or bools b 0); ints = λ r. get_or ints r 0; truths = truths_in truth }
 
--- the run of an executable that demand 3 speaks of: of as many steps at most as the total in its report. A larger bound gives the same run (proofs/Answers.antt, longer)
+-- the run of an executable that demand 3 speaks of: of as many steps at most as the total in its report. A
+-- larger bound gives the same run (proofs/Answers.antt, longer)
 unfoldable pub run_of : List ℕ → ℕ → Settings → Run
 run_of file index v = run (code_for file) v (report_of file (program_of file) index).total (start_for file index)
 
@@ -39,7 +40,8 @@ fetches_in (done l) = indices_of l
 fetches_in (failed l) = []
 fetches_in (unfinished l) = []
 
--- 'The walk makes the whole check first and passes its refusal on'; '29, then 30, come after the whole check'; 'under 16 bools or 4 integers gives 30'; else the fetches
+-- 'The walk makes the whole check first and passes its refusal on'; '29, then 30, come after the whole
+-- check'; 'under 16 bools or 4 integers gives 30'; else the fetches
 module _ (file : List ℕ) (index : ℕ) (bools ints truth : List ℕ) where
   abbrev pub walk_in : Answer Library → Answer (List ℕ)
   walk_in (refused number place) = refused number place
@@ -50,7 +52,8 @@ module _ (file : List ℕ) (index : ℕ) (bools ints truth : List ℕ) where
   unfoldable pub walk_fetches : Answer (List ℕ)
   walk_fetches = walk_in (check_of file)
 
-  -- the whole run: inside the tables and the limits, within the total, and its last word is END; it is the run where steps are answered
+  -- the whole run: inside the tables and the limits, within the total, and its last word is END; it is the
+  -- run where steps are answered
   abbrev pub WholeWalk : Type 0
   WholeWalk = Whole (code_for file) (settings_of bools ints truth) 4 8 2 (report_of file (program_of file) index).total (start_for file index)
 
@@ -62,7 +65,8 @@ abbrev pub steps_of : Answer (List ℕ) → Answer ℕ
 steps_of (given fetches) = given (length fetches)
 steps_of (refused number place) = refused number place
 
--- 'and writes the index of each fetched word, in order, to a lent list of u16, as many as fit, the rest untouched': past its end nothing is set; a refusal leaves it as it was
+-- 'and writes the index of each fetched word, in order, to a lent list of u16, as many as fit, the rest
+-- untouched': past its end nothing is set; a refusal leaves it as it was
 abbrev pub written_to : List ℕ → Answer (List ℕ) → List ℕ
 written_to old (given fetches) = sets old 0 fetches
 written_to old (refused number place) = old

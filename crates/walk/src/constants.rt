@@ -9,15 +9,14 @@ use container::executable_of;
 use tables::{Constant, constant_entry, constant_of};
 use verifier::check;
 
-// The whole check, then 29 for an executable or a constant that is not there, else the constant. `n` counts the entries of the executable's constant table.
+// The whole check, then 29 for an executable or a constant that is not there, else the constant. `n` counts
+// the entries of the executable's constant table.
 pub fn constant(file: &[u8], executable: u32, n: u32) -> Result<Constant, Refusal>
     ensures answers { answered result ≡ constant_answer file.now executable n }
     ensures hands { Hands file.now result }
 {
     let library = check(file)?;
-    if library.executables <= executable {
-        return Err(Reason::NotThere.at(0));
-    }
+    library.require(executable)?;
     let table = executable_of(file, executable).constants;
     if table.count <= n {
         return Err(Reason::NotThere.at(0));

@@ -1,7 +1,7 @@
 // The engine: fetches one word after another.
-ghost use Rattle.std.specs.Prelude.{◌≡◌, ◌≤◌, length, set};
+ghost use Rattle.std.specs.Prelude.{◌≡◌, ◌<◌, ◌≤◌, length, set};
 ghost use Rattle.std.proofs.lemmas.List.Edits.{sets};
-ghost use Rattle.walk.specs.Inside.{controls_of, Runs, fetches_by, settings_by};
+ghost use Rattle.walk.specs.Inside.{controls_of, stands, move_of, followed, left_after, Runs, fetches_by, settings_by};
 
 use crate::frames::Frames;
 use crate::moves::move_of;
@@ -31,6 +31,22 @@ fn note(fetched: &mut [u16], step: usize, word: u16)
     }
 }
 
+// Does what a word asks for, with the address after it and the outcomes that are left, and answers the next
+// word; None where the run has no next step, as at END.
+fn step(
+    frames: &mut Frames,
+    settings: &Settings,
+    control: &Control,
+    next: u64,
+    outcomes: &mut &[u8],
+) -> Option<u64>
+    requires { length frames.old < 16 }
+    ensures steps { stands result frames.new ≡ followed frames.old (move_of (settings_by settings.now) control.now next outcomes.old.now) }
+    ensures left { outcomes.new.now ≡ left_after control.now outcomes.old.now }
+{
+    frames.follow(move_of(settings, control, next, outcomes)?)
+}
+
 // The run of a main whose whole run is known to end: how many steps it makes, and in `fetched` the index of
 // each fetched word, as many as fit.
 pub(crate) fn run_main(
@@ -46,16 +62,16 @@ pub(crate) fn run_main(
 {
     let controls = controls_of(words);
     let mut frames = Frames::of_main(endmain.0 as u64);
+    let mut outcomes = settings.truth;
     let mut word = main.0 as u64;
-    let mut read = 0;
     let mut steps = 0;
     loop {
         note(fetched, steps, word as u16);
         steps += 1;
-        let Some((asked, outcomes)) = move_of(settings, controls[word as usize], word, read) else {
+        let control = &controls[word as usize];
+        let Some(next) = step(&mut frames, settings, control, word + 1, &mut outcomes) else {
             return steps as u32;
         };
-        word = frames.follow(asked);
-        read = outcomes;
+        word = next;
     }
 }

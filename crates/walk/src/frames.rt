@@ -1,17 +1,24 @@
 // The open regions of a run.
 ghost use Rattle.std.specs.Prelude.{◌≡◌, [], ◌∷◌, ◌<◌, length};
-ghost use Rattle.walk.specs.Inside.{frame, standing, closing, leaving, arrive_by};
+ghost use Rattle.walk.specs.Inside.{frame, standing, stands, closing, repeats, leaving, arrive_by};
+ghost use Rattle.walk.specs.declared.frames.After.TheVariants.{GoOn};
 
 use crate::moves::Move;
 use std::marker::Model;
 
-// An open region: its end; where the run goes on after it, or a LOOP's first word; how many turns of a LOOP
-// are left, this one with them, and 0 for any other region.
+// What follows the end of an open region: the word where the run goes on; or, of a LOOP, its first word, and
+// how many turns it makes after this one.
+#[derive(Clone, Copy, Debug, PartialEq, Eq)]
+pub enum After {
+    GoOn(u64),
+    Turns(u64, u8),
+}
+
+// An open region. After its last turn a LOOP goes on at its end.
 #[derive(Clone, Copy, Debug, PartialEq, Eq)]
 pub struct Frame {
     pub end: u64,
-    pub then: u64,
-    pub turns: u64,
+    pub after: After,
 }
 
 // Sixteen regions at most, the outermost first.
@@ -36,12 +43,11 @@ impl Model for Frames {
 impl Frames {
     // Main alone, which nothing follows.
     pub(crate) fn of_main(end: u64) -> Frames
-        ensures { result ≡ frame end end 0 ∷ [] }
+        ensures { result ≡ frame end (GoOn end) ∷ [] }
     {
         let main = Frame {
             end,
-            then: end,
-            turns: 0,
+            after: After::GoOn(end),
         };
         Frames {
             frames: [main; 16],
@@ -70,48 +76,51 @@ impl Frames {
             if at != region.end {
                 return at;
             }
-            let Frame { then, turns, .. } = *region;
-            if 1 < turns && then != at {
-                self.frames[top].turns -= 1;
-                return then;
-            }
-            if turns == 0 {
-                at = then;
+            match region.after {
+                After::GoOn(next) => at = next,
+                After::Turns(first, turns) => {
+                    if 0 < turns && first != at {
+                        self.frames[top].after = After::Turns(first, turns - 1);
+                        return first;
+                    }
+                }
             }
             self.depth = top;
         }
         at
     }
 
-    // BREAK: closes what is open up to the innermost LOOP, with it, and answers where it ends. With no LOOP
-    // open a run has no next step, so what is answered then does not matter.
-    fn leave(&mut self) -> u64
-        ensures { standing result self.new ≡ leaving self.old }
+    // BREAK: closes what is open up to the innermost LOOP, with it, and answers where it ends; None where no
+    // LOOP is open.
+    #[tactic(auto, using(crate::proofs::Regions::leaves_none))]
+    fn leave(&mut self) -> Option<u64>
+        ensures { stands result self.new ≡ leaving self.old }
     {
-        while 0 < self.depth {
-            self.depth -= 1;
-            let region = &self.frames[self.depth];
-            if 0 < region.turns {
-                return region.end;
-            }
-        }
-        0
+        let open = &self.frames[..self.depth];
+        let innermost = open.iter().rposition(
+            |region|
+                ensures { result ≡ repeats region.now.after }
+            { matches!(region.after, After::Turns(..)) },
+        )?;
+        let end = open[innermost].end;
+        self.depth = innermost;
+        Some(end)
     }
 
-    // Does what a word asks for, and arrives.
-    pub(crate) fn follow(&mut self, asked: Move) -> u64
+    // Does what a word asks for, and arrives; None where a run has no next step.
+    pub(crate) fn follow(&mut self, asked: Move) -> Option<u64>
         requires { length self.old < 16 }
-        ensures { standing result self.new ≡ arrive_by self.old asked }
+        ensures { stands result self.new ≡ arrive_by self.old asked }
     {
         match asked {
-            Move::Go(word) => self.arrive(word),
+            Move::Go(word) => Some(self.arrive(word)),
             Move::Leave => {
-                let end = self.leave();
-                self.arrive(end)
+                let end = self.leave()?;
+                Some(self.arrive(end))
             }
             Move::Open(region, word) => {
                 self.open(region);
-                self.arrive(word)
+                Some(self.arrive(word))
             }
         }
     }

@@ -1,11 +1,10 @@
 // What a fetched word asks of the open regions.
-ghost use Rattle.std.specs.Prelude.{◌≡◌, ◌<◌, ◌^◌};
-ghost use Rattle.flow.specs.Stepping.{reads};
-ghost use Rattle.walk.specs.Inside.{move_break, move_if, move_loop, move_call, move_jump, move_of, settings_by};
+ghost use Rattle.std.specs.Prelude.{◌≡◌};
+ghost use Rattle.walk.specs.Inside.{move_break, move_if, move_loop, move_call, move_jump, move_of, left_after, settings_by};
 
-use crate::frames::Frame;
+use crate::frames::{After, Frame};
 use crate::settings::Settings;
-use instruction::{Condition, Control};
+use instruction::Control;
 
 // What a word asks for. Addresses are sums of its DST and NUM, which have 64 bits here.
 #[derive(Clone, Copy, Debug, PartialEq, Eq)]
@@ -18,124 +17,87 @@ pub enum Move {
     Open(Frame, u64),
 }
 
-// How many outcomes are read with a word, after so many.
-fn read_after(condition: Condition, read: u64) -> u64
-    requires { read < 2 ^ 32 }
-    ensures { result ≡ reads condition read }
+fn move_break(taken: bool, next: u64) -> Move
+    ensures { result ≡ move_break taken next }
 {
-    match condition {
-        Condition::Compared => read + 1,
-        Condition::Always | Condition::Uniform(_) => read,
-    }
+    if taken { Move::Leave } else { Move::Go(next) }
 }
 
-fn move_break(taken: bool, word: u64) -> Move
-    requires { word < 2 ^ 32 }
-    ensures { result ≡ move_break taken word }
-{
-    if taken {
-        Move::Leave
-    } else {
-        Move::Go(word + 1)
-    }
-}
-
-fn move_if(taken: bool, word: u64, dst: u32, num: u32) -> Move
-    requires { word < 2 ^ 32 }
-    ensures { result ≡ move_if taken word dst num }
+fn move_if(taken: bool, next: u64, dst: u32, num: u32) -> Move
+    ensures { result ≡ move_if taken next dst num }
 {
     let first = dst as u64;
     let after = first + num as u64;
-    let (end, word) = if taken {
-        (first, word + 1)
-    } else {
-        (after, first)
-    };
+    let (end, word) = if taken { (first, next) } else { (after, first) };
     Move::Open(
         Frame {
             end,
-            then: after,
-            turns: 0,
+            after: After::GoOn(after),
         },
         word,
     )
 }
 
-fn move_loop(x: u8, word: u64, dst: u32) -> Move
-    requires { word < 2 ^ 32 }
-    ensures { result ≡ move_loop x word dst }
+fn move_loop(x: u8, next: u64, dst: u32) -> Move
+    ensures { result ≡ move_loop x next dst }
 {
-    let first = word + 1;
     Move::Open(
         Frame {
             end: dst as u64 + 1,
-            then: first,
-            turns: x as u64 + 1,
+            after: After::Turns(next, x),
         },
-        first,
+        next,
     )
 }
 
-fn move_call(taken: bool, word: u64, dst: u32, num: u32) -> Move
-    requires { word < 2 ^ 32 }
-    ensures { result ≡ move_call taken word dst num }
+fn move_call(taken: bool, next: u64, dst: u32, num: u32) -> Move
+    ensures { result ≡ move_call taken next dst num }
 {
-    let first = dst as u64;
     if taken {
+        let first = dst as u64;
         Move::Open(
             Frame {
                 end: first + num as u64,
-                then: word + 1,
-                turns: 0,
+                after: After::GoOn(next),
             },
             first,
         )
     } else {
-        Move::Go(word + 1)
+        Move::Go(next)
     }
 }
 
-fn move_jump(taken: bool, word: u64, dst: u32) -> Move
-    requires { word < 2 ^ 32 }
-    ensures { result ≡ move_jump taken word dst }
+fn move_jump(taken: bool, next: u64, dst: u32) -> Move
+    ensures { result ≡ move_jump taken next dst }
 {
-    Move::Go(if taken { dst as u64 } else { word + 1 })
+    Move::Go(if taken { dst as u64 } else { next })
 }
 
-// The word at an address, with so many outcomes read before it, and how many are read with it; None at END.
-// NUM of a jump is not read. An unknown word and a LOOP register over 3 have no next step, so what is
-// answered for them does not matter.
+// What a word asks for, with the address after it and the outcomes that are left; None at END and at an
+// unknown word, which have no next step. NUM of a jump is not read. A LOOP register over 3 has no next step
+// either, so what is answered for it does not matter.
 pub(crate) fn move_of(
     settings: &Settings,
-    control: Control,
-    word: u64,
-    read: u64,
-) -> Option<(Move, u64)>
-    requires { (word < 2 ^ 32) × (read < 2 ^ 32) }
-    ensures { result ≡ move_of (settings_by settings.now) control word read }
+    control: &Control,
+    next: u64,
+    outcomes: &mut &[u8],
+) -> Option<Move>
+    ensures moves { result ≡ move_of (settings_by settings.now) control.now next outcomes.old.now }
+    ensures left { outcomes.new.now ≡ left_after control.now outcomes.old.now }
 {
-    match control {
-        Control::End => None,
-        Control::Unknown | Control::Plain | Control::Emit => Some((Move::Go(word + 1), read)),
-        Control::Break(c) => {
-            let taken = settings.is_true(c, read);
-            Some((move_break(taken, word), read_after(c, read)))
-        }
+    match *control {
+        Control::End | Control::Unknown => None,
+        Control::Plain | Control::Emit => Some(Move::Go(next)),
+        Control::Break(c) => Some(move_break(settings.is_true(c, outcomes), next)),
         Control::If(c, dst, num) => {
-            let taken = settings.is_true(c, read);
-            Some((move_if(taken, word, dst.0, num), read_after(c, read)))
+            let taken = settings.is_true(c, outcomes);
+            Some(move_if(taken, next, dst.0, num))
         }
-        Control::Loop(register, dst) => {
-            let x = settings.x_of(register);
-            Some((move_loop(x, word, dst.0), read))
-        }
+        Control::Loop(register, dst) => Some(move_loop(settings.x_of(register), next, dst.0)),
         Control::Call(c, dst, num) => {
-            let taken = settings.is_true(c, read);
-            Some((move_call(taken, word, dst.0, num), read_after(c, read)))
+            let taken = settings.is_true(c, outcomes);
+            Some(move_call(taken, next, dst.0, num))
         }
-        Control::Jump(c, dst, _) => {
-            let taken = settings.is_true(c, read);
-            Some((move_jump(taken, word, dst.0), read_after(c, read)))
-        }
+        Control::Jump(c, dst, _) => Some(move_jump(settings.is_true(c, outcomes), next, dst.0)),
     }
 }

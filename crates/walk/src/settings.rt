@@ -1,8 +1,9 @@
 // What a caller gives a run: the bools, the bytes x and the outcomes of comparisons.
-ghost use Rattle.std.specs.Prelude.{◌≡◌, get_or};
-ghost use Rattle.flow.specs.Stepping.{holds};
-ghost use Rattle.walk.specs.Inside.{settings_by};
+ghost use Rattle.std.specs.Prelude.{◌≡◌, drop, get_or};
+ghost use Rattle.walk.specs.Inside.{settings_by, truth_of, left_by};
+ghost use Rattle.walk.specs.Walk.{non_zero};
 
+use binary::{ByteOffset, u8_at};
 use instruction::Condition;
 
 // One byte for each register, or for each outcome in the order in which they are read.
@@ -13,23 +14,28 @@ pub struct Settings<'a> {
     pub truth: &'a [u8],
 }
 
-// 0 past the end.
-fn byte_at(bytes: &[u8], i: u64) -> u8
-    ensures { result ≡ get_or bytes.now i 0 }
+// The next outcome; false past the last.
+fn take_outcome(outcomes: &mut &[u8]) -> bool
+    ensures truth { result ≡ non_zero (get_or outcomes.old.now 0 0) }
+    ensures left { outcomes.new.now ≡ drop 1 outcomes.old.now }
 {
-    bytes.get(i as usize).copied().unwrap_or(0)
+    let Some((outcome, rest)) = outcomes.split_first() else {
+        return false;
+    };
+    *outcomes = rest;
+    *outcome != 0
 }
 
 impl<'a> Settings<'a> {
-    // The truth of a condition, with so many outcomes read before.
-    #[tactic(auto, using(crate::proofs::Truths::truth_at))]
-    pub(crate) fn is_true(&self, condition: Condition, read: u64) -> bool
-        ensures { result ≡ holds (settings_by self.now) condition read }
+    // The truth of a condition, which may take the next outcome.
+    pub(crate) fn is_true(&self, condition: Condition, outcomes: &mut &[u8]) -> bool
+        ensures truth { result ≡ truth_of (settings_by self.now) condition outcomes.old.now }
+        ensures left { outcomes.new.now ≡ left_by condition outcomes.old.now }
     {
         match condition {
             Condition::Always => true,
-            Condition::Compared => byte_at(self.truth, read) != 0,
-            Condition::Uniform(b) => byte_at(self.bools, b as u64) != 0,
+            Condition::Compared => take_outcome(outcomes),
+            Condition::Uniform(b) => u8_at(self.bools, ByteOffset(b as u64)) != 0,
         }
     }
 
@@ -37,6 +43,6 @@ impl<'a> Settings<'a> {
     pub(crate) fn x_of(&self, register: u32) -> u8
         ensures { result ≡ (settings_by self.now).ints register }
     {
-        byte_at(self.ints, register as u64)
+        u8_at(self.ints, ByteOffset(register as u64))
     }
 }

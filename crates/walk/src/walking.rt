@@ -9,8 +9,9 @@ use answer::{Reason, Refusal};
 use container::executable_of;
 use verifier::{check, words_of};
 
-// The whole check, then 29 for an executable that is not there, then 30 for fewer than 16 bools or 4 integers; else the run of the executable.
-// The index of each fetched word is written to `fetched`, as many as fit; the rest of it stays, and all of it where the walk is refused.
+// The whole check, then 29 for an executable that is not there, then 30 for fewer than 16 bools or 4
+// integers; else the run of the executable. The index of each fetched word is written to `fetched`, as many
+// as fit; the rest of it stays, and all of it where the walk is refused.
 pub fn walk(
     file: &[u8],
     executable: u32,
@@ -23,13 +24,12 @@ pub fn walk(
     ensures writes { fetched.new ≡ written_to fetched.old (walk_fetches file.now executable bools.now ints.now truth.now) }
     ensures runs { RunsWhole file.now executable bools.now ints.now truth.now result }
 {
+    // The scope document names this form.
     let verdict = check(file);
     let Ok(library) = verdict else {
         return Err(verdict.unwrap_err());
     };
-    if library.executables <= executable {
-        return Err(Reason::NotThere.at(0));
-    }
+    library.require(executable)?;
     if bools.len() < 16 || ints.len() < 4 {
         return Err(Reason::BufferTooShort.at(0));
     }

@@ -15,10 +15,8 @@ pub scan_part-requires : goal.scan_part-requires
 scan_part-requires c =
     record {
       within = c.requires.1;
-      few = c.requires.2;
       weighs = search rules;
       under = (omega arith, omega arith, omega arith);
-      small = (omega arith, omega arith, omega arith);
       long = length-replicate {A = Bool} 512 false;
       memory = memory_none (code_of c.args.words.now 0) (full_rules c.args.emits) (replicate 512 false);
     }

@@ -1,4 +1,5 @@
--- `own::is_own` meets its contract: the word is an own word from the start on exactly if it is one from here on. Assumes nothing.
+-- `own::is_own` meets its contract: the word is an own word from the start on exactly if it is one from here
+-- on. Assumes nothing.
 use mathlib.Core.Path.{◌≡◌, sym, ◌∙◌}
 use Prim.Native.Nat.{ℕ, ◌<◌}
 use native.Mathlib.Omega.{arith}
@@ -7,7 +8,7 @@ use Rattle.flow.specs.Flow.{code_of}
 use Rattle.flow.specs.Inside.{after_of}
 use Rattle.flow.specs.Own.{own_words, has}
 use Rattle.flow.specs.Rules.{Code}
-use Rattle.flow.proofs.OwnSteps.{own_none, own_next, own_last, own_reached, after_no_block, after_further}
+use Rattle.flow.proofs.OwnSteps.{own_none, own_next, own_last, own_reached, after_no_block}
 use Rattle.flow.proofs.own.is_own.Goals.{In-loop-p}
 use Rattle.flow.proofs.own.is_own.Goals as goal
 
@@ -38,11 +39,6 @@ pub returns-then-end-word : goal.returns-then-end-word
 returns-then-end-word c =
     let a = c.args in
     own_none (code_of a.words.now 0) a.from a.end a.word (λ l. c.if-end-word.true)
-
-pub loop-p-smaller-then-is_block : goal.loop-p-smaller-then-is_block
-loop-p-smaller-then-is_block c =
-    let k = (goal.at.loop-p-smaller-then-is_block c).In-loop-p in
-    omega (arith, c.loop-p-test.true, after_further ((C k).control (p k)) (p k) (E k) (inside k) (sym c.own_after.ensures ∙ c.in-Some.is))
 
 pub loop-p-preserved-then-is_block : goal.loop-p-preserved-then-is_block
 loop-p-preserved-then-is_block c =

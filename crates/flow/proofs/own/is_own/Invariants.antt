@@ -1,4 +1,5 @@
--- `own::is_own` meets its contract: the word is an own word from the start on exactly if it is one from here on. Assumes nothing.
+-- `own::is_own` meets its contract: the word is an own word from the start on exactly if it is one from here
+-- on. Assumes nothing.
 use mathlib.Core.Path.{◌≡◌}
 use Prim.Native.Nat.{◌-◌}
 use Rattle.flow.specs.Flow.{code_of}

@@ -1,26 +1,18 @@
--- `scan::no_tests` meets its contract: all are plain exactly if all from here on are. Assumes nothing.
-use mathlib.Core.Path.{refl, sym, ap, ◌∙◌}
-use Rattle.flow.specs.Flow.{code_of}
-use Rattle.flow.specs.Inside.{goes_on}
-use Rattle.flow.proofs.NoTests.{untested_not, untested_next, untested_none}
+-- `scan::no_tests` meets its contract. Assumes nothing.
+use mathlib.Core.Path.{◌∙◌}
+use Prim.Native.Nat.{◌-◌}
+use lib.ListN.{take, drop}
+use native.Mathlib.Omega.{arith}
+use borrow.Author.Rules.{rules}
+use Rattle.std.proofs.lemmas.Iterator.{YieldsList-from_slice}
+use Rattle.std.proofs.lemmas.Iterator.Search.{all_from_yields_List}
+use Rattle.instruction.specs.Control.{control_of, is_untested}
+use Rattle.flow.proofs.NoTests.{untested_all}
 use Rattle.flow.proofs.scan.no_tests.Goals as goal
-
-pub returns-then-not-goes_on : goal.returns-then-not-goes_on
-returns-then-not-goes_on c =
-    let a = c.args in
-    sym (untested_not (code_of a.words.now 0) c.loop-p.p a.to c.loop-p-test.true
-    (ap (λ y. goes_on y 0 0) (sym c.control_of.ensures) ∙ sym c.goes_on.ensures ∙ c.if-not-goes_on.true)) ∙ c.loop-p.invariant
-
-pub loop-p-preserved : goal.loop-p-preserved
-loop-p-preserved c =
-    let a = c.args in
-    sym (untested_next (code_of a.words.now 0) c.loop-p.p a.to c.loop-p-test.true
-    (ap (λ y. goes_on y 0 0) (sym c.control_of.ensures) ∙ sym c.goes_on.ensures ∙ c.if-not-goes_on.false)) ∙ c.loop-p.invariant
 
 pub returns : goal.returns
 returns c =
     let a = c.args in
-    sym (untested_none (code_of a.words.now 0) c.loop-p.p a.to c.loop-p-test.false) ∙ c.loop-p.invariant
-
-pub loop-p-init : goal.loop-p-init
-loop-p-init c = refl
+    let among = take (a.to - a.from) (drop a.from a.words.now) in
+    let all = all_from_yields_List (λ w. is_untested (control_of w)) _ _ c.all.result c.all.ensures.ran (YieldsList-from_slice among cc) (λ x b q k. search rules) in
+    all ∙ untested_all a.words.now a.from (a.to - a.from) (omega (arith, c.requires))

@@ -1,8 +1,10 @@
--- `line::digits_of` meets its contract: the digits to come and those that stand there are all of them. Assumes nothing.
-use Rattle.std.proofs.Common.{◌≡◌, ◌++◌, drop, length}
+-- `line::digits_of` meets its contract: the digits to come, and those that stand there, the last first, are
+-- all of them. Assumes nothing.
+use Rattle.std.proofs.Common.{◌≡◌, ◌-◌, ◌++◌, take, length, reverse}
 use Rattle.text.specs.Pieces.{digits}
 use Rattle.text.proofs.line.digits_of.Given as goal
 
-abbrev pub invariant-loop-i : goal.invariant-loop-i
-invariant-loop-i g l =
-    (length l.out ≡ g.row.WIDTH) × (digits g.row.BASE l.i l.rest ++ drop l.i l.out ≡ digits g.row.BASE g.row.WIDTH l.n)
+abbrev pub invariant-loop-digit : goal.invariant-loop-digit
+invariant-loop-digit g l =
+    (length l.digit-items ≡ g.row.WIDTH)
+    × (digits g.row.BASE (g.row.WIDTH - l.digit-index) l.rest ++ reverse (take l.digit-index l.digit-items) ≡ digits g.row.BASE g.row.WIDTH l.n)

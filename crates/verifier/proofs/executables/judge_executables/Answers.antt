@@ -1,6 +1,7 @@
--- `executables::judge_executables` meets its contract: what is left of the answer at each stage of an executable is kept from one loop to the next, and what is known of the executable before it. Assumes nothing.
+-- `executables::judge_executables` meets its contract: what is left of the answer at each stage of an
+-- executable is kept from one loop to the next, and what is known of the executable before it.
+-- Assumes nothing.
 use mathlib.Core.Path.{◌≡◌, refl, sym, ap, ◌∙◌}
-use mathlib.Core.Bool.{true}
 use Prim.Native.Nat.{ℕ, ◌+◌, ◌-◌, ◌≤◌, ◌<◌}
 use native.Mathlib.Omega.{arith}
 use borrow.Author.Rules.{rules}
@@ -8,13 +9,14 @@ use Rattle.answer.specs.Faults.{Nothing}
 use Rattle.answer.proofs.Laws.{stop, hit, over}
 use Rattle.container.specs.Executable.{executable_fault}
 use Rattle.answer.specs.Answers.{answered}
-use Rattle.std.specs.Prelude.{Err, is_err}
-use Rattle.answer.specs.Faults.{Fault, faulted}
+use Rattle.std.specs.Prelude.{Err}
+use Rattle.std.proofs.lemmas.Option.{IfSome_then}
+use Rattle.answer.specs.Faults.{faulted}
 use Rattle.tables.specs.Constants.{constant_fault}
 use Rattle.tables.specs.Entries.{label_fault, output_fault, uniform_fault}
 use Rattle.verifier.specs.Executables.{place_of, no_report, report_of}
 use Rattle.verifier.specs.Lists.{filled}
-use Rattle.verifier.proofs.Sharing.{constant_placeless, label_placeless, output_placeless, uniform_placeless, begun, next, all_good, known_labels, known_uniforms, now_known}
+use Rattle.verifier.proofs.Sharing.{constant_placeless, label_placeless, output_placeless, uniform_placeless, begun, next, all_good, begins, now_known}
 use Rattle.verifier.proofs.Stages.{All, begin, at_head, past_head, seen, seen_names, constants_fit, labels_fit, outputs_fit, uniforms_fit, word_inside, flow_stops, flow_goes_on, report_added, none_yet, Left, left_by, found_by, passes, told_refused, told_reports}
 use Rattle.verifier.proofs.executables.judge_executables.Goals.{After-executable_of-e, Left-executables, else-executables-test, then-executables-test+then-is_err, then-executables-test+else-is_err+then-loop-entry-test+then-is_err-2, then-executables-test+else-is_err+else-loop-entry-test+then-loop-entry-2-test+then-is_err-3, then-executables-test+else-is_err+else-loop-entry-test+else-loop-entry-2-test+then-loop-entry-3-test+then-is_err-4, then-executables-test+else-is_err+else-loop-entry-test+else-loop-entry-2-test+else-loop-entry-3-test+then-loop-entry-4-test+then-is_err-5, then-executables-test+else-is_err+else-loop-entry-test+else-loop-entry-2-test+else-loop-entry-3-test+else-loop-entry-4-test+in-Err}
 use Rattle.verifier.proofs.executables.judge_executables.Goals as goal
@@ -42,21 +44,22 @@ at_left c =
       | then-executables-test+else-is_err+else-loop-entry-test+then-loop-entry-2-test+then-is_err-3 w ↦ left_by w.found-is (sym w.is_err-in-loop-entry-2.ensures.value ∙ w.if-is_err-3.true) (found_by _ (sym w.is_err-in-loop-entry-2.ensures.value ∙ w.if-is_err-3.true) (sym (seen_names (λ n s. label_fault s c.args.library.program.words.count n (place_of x.index + w.loop-entry-2.entry)) w.names_after-names.ensures w.entry_of-in-loop-entry-2.ensures w.label_fault-found.ensures)) (λ n p g. hit _ _ _ _ _ w.loop-entry-2.invariant.1.left w.loop-entry-2-test.true g))
       | then-executables-test+else-is_err+else-loop-entry-test+else-loop-entry-2-test+then-loop-entry-3-test+then-is_err-4 w ↦ left_by w.found-is (sym w.is_err-in-loop-entry-3.ensures.value ∙ w.if-is_err-4.true) (found_by _ (sym w.is_err-in-loop-entry-3.ensures.value ∙ w.if-is_err-4.true) (sym (seen (λ s. output_fault s (place_of x.index + w.loop-entry-3.entry)) w.entry_of-in-loop-entry-3.ensures w.output_fault-found.ensures)) (λ n p g. hit _ _ _ _ _ w.loop-entry-3.invariant.1.left w.loop-entry-3-test.true g))
       | then-executables-test+else-is_err+else-loop-entry-test+else-loop-entry-2-test+else-loop-entry-3-test+then-loop-entry-4-test+then-is_err-5 w ↦ left_by w.found-is (sym w.is_err-in-loop-entry-4.ensures.value ∙ w.if-is_err-5.true) (found_by _ (sym w.is_err-in-loop-entry-4.ensures.value ∙ w.if-is_err-5.true) (sym (seen_names (λ n s. uniform_fault s n (place_of x.index + w.loop-entry-4.entry)) w.names_after-names.ensures w.entry_of-in-loop-entry-4.ensures w.uniform_fault-found.ensures)) (λ n p g. hit _ _ _ _ _ w.loop-entry-4.invariant.1.left w.loop-entry-4-test.true g))
-      | then-executables-test+else-is_err+else-loop-entry-test+else-loop-entry-2-test+else-loop-entry-3-test+else-loop-entry-4-test+in-Err w ↦ left_by w.found-is refl (ap (λ r. faulted (Err r)) w.at.ensures ∙ flow_stops c.requires.0 x.index w.executable_of-e.ensures (sym w.executable_fault-found.ensures ∙ passes _ (sym w.is_err.ensures.value ∙ w.if-is_err.false)) w.flow_after-flow.result w.flow_after-flow.ensures _ _ (over _ _ _ _ _ w.loop-entry-4.invariant.1.left w.loop-entry-4-test.false) w.in-Err.is)
+      | then-executables-test+else-is_err+else-loop-entry-test+else-loop-entry-2-test+else-loop-entry-3-test+else-loop-entry-4-test+in-Err w ↦ left_by w.found-is refl (ap (λ r. faulted (Err r)) w.at.ensures ∙ flow_stops c.requires.0 x.index w.executable_of-e.ensures (sym w.executable_fault-found.ensures ∙ passes _ (sym w.is_err.ensures.value ∙ w.if-is_err.false)) w.flow_after.result w.flow_after.ensures _ _ (over _ _ _ _ _ w.loop-entry-4.invariant.1.left w.loop-entry-4-test.false) w.in-Err.is)
     ]
 
 pub executables-init : goal.executables-init
 executables-init c =
-    (search rules, search rules, refl, begin _ _ _ _, none_yet (report_of c.args.file.now c.args.library.program) c.args.first c.no_report-reports.ensures, c.none_earlier-earlier.ensures)
+    let none : c.default-reports.result ≡ no_report = search rules in
+    (search rules, search rules, refl, begin _ _ _ _, none_yet (report_of c.args.file.now c.args.library.program) c.args.first none, tt)
 
 pub names_after-names-requires : goal.names_after-names-requires
-names_after-names-requires c = c.executables.invariant.5.names
+names_after-names-requires c = IfSome_then c.executables.earlier c.executables.invariant.5 (λ k known. known.names)
 
 pub loop-entry-init : goal.loop-entry-init
 loop-entry-init c =
     let x = c.executables in (
       passes _ (sym c.is_err.ensures.value ∙ c.if-is_err.false),
-      begun _ _ _ _ _ _ _ true x.earlier.executable.constants c.good_in-known.ensures (λ same. x.invariant.5.constants) (past_head _ _ _ _ _ x.invariant.3 (in_range (goal.at.loop-entry-init c).After-executable_of-e).1 c.executable_of-e.ensures (head_passed (goal.at.loop-entry-init c).After-executable_of-e)),
+      begun _ _ _ _ _ _ _ (begins c.requires.0 c.executable_of-e.result c.names_after-names.ensures x.earlier x.invariant.5 c.good_entries-known.ensures).constants (past_head _ _ _ _ _ x.invariant.3 (in_range (goal.at.loop-entry-init c).After-executable_of-e).1 c.executable_of-e.ensures (head_passed (goal.at.loop-entry-init c).After-executable_of-e)),
     )
 
 pub entry_of-requires : goal.entry_of-requires
@@ -78,7 +81,7 @@ pub loop-entry-2-init : goal.loop-entry-2-init
 loop-entry-2-init c =
     let x = c.executables in
     let l = c.loop-entry in
-    (l.invariant.0, begun _ _ _ _ _ _ _ _ x.earlier.executable.labels c.good_in-known-in-executables.ensures (known_labels c.requires.0 c.executable_of-e.result c.names_after-names.ensures x.invariant.5) (over _ _ _ _ _ l.invariant.1.left c.loop-entry-test.false))
+    (l.invariant.0, begun _ _ _ _ _ _ _ (begins c.requires.0 c.executable_of-e.result c.names_after-names.ensures x.earlier x.invariant.5 c.good_entries-known.ensures).labels (over _ _ _ _ _ l.invariant.1.left c.loop-entry-test.false))
 
 pub entry_of-requires-in-loop-entry-2 : goal.entry_of-requires-in-loop-entry-2
 entry_of-requires-in-loop-entry-2 c =
@@ -99,7 +102,7 @@ pub loop-entry-3-init : goal.loop-entry-3-init
 loop-entry-3-init c =
     let x = c.executables in
     let l = c.loop-entry-2 in
-    (l.invariant.0, begun _ _ _ _ _ _ _ true x.earlier.executable.outputs c.good_in-known-in-executables-2.ensures (λ same. x.invariant.5.outputs) (over _ _ _ _ _ l.invariant.1.left c.loop-entry-2-test.false))
+    (l.invariant.0, begun _ _ _ _ _ _ _ (begins c.requires.0 c.executable_of-e.result c.names_after-names.ensures x.earlier x.invariant.5 c.good_entries-known.ensures).outputs (over _ _ _ _ _ l.invariant.1.left c.loop-entry-2-test.false))
 
 pub entry_of-requires-in-loop-entry-3 : goal.entry_of-requires-in-loop-entry-3
 entry_of-requires-in-loop-entry-3 c =
@@ -120,7 +123,7 @@ pub loop-entry-4-init : goal.loop-entry-4-init
 loop-entry-4-init c =
     let x = c.executables in
     let l = c.loop-entry-3 in
-    (l.invariant.0, begun _ _ _ _ _ _ _ _ x.earlier.executable.uniforms c.good_in-known-in-executables-3.ensures (known_uniforms c.requires.0 c.executable_of-e.result c.names_after-names.ensures x.invariant.5) (over _ _ _ _ _ l.invariant.1.left c.loop-entry-3-test.false))
+    (l.invariant.0, begun _ _ _ _ _ _ _ (begins c.requires.0 c.executable_of-e.result c.names_after-names.ensures x.earlier x.invariant.5 c.good_entries-known.ensures).uniforms (over _ _ _ _ _ l.invariant.1.left c.loop-entry-3-test.false))
 
 pub entry_of-requires-in-loop-entry-4 : goal.entry_of-requires-in-loop-entry-4
 entry_of-requires-in-loop-entry-4 c =
@@ -137,12 +140,12 @@ loop-entry-4-preserved c = (
       (seen_names (λ n s. uniform_fault s n (place_of (at_index (goal.at.loop-entry-4-preserved c).After-executable_of-e) + c.loop-entry-4.entry)) c.names_after-names.ensures c.entry_of-in-loop-entry-4.ensures c.uniform_fault-found.ensures ∙ passes _ (sym c.is_err-in-loop-entry-4.ensures.value ∙ c.if-is_err-5.false)),
 )
 
-pub flow_after-flow-requires : goal.flow_after-flow-requires
-flow_after-flow-requires c = c.executables.invariant.5.flow
+pub flow_after-requires : goal.flow_after-requires
+flow_after-requires c = IfSome_then c.executables.earlier c.executables.invariant.5 (λ k known. known.flow)
 
 pub overflow_add-place-in-Err : goal.overflow_add-place-in-Err
 overflow_add-place-in-Err c =
-    let r = c.flow_after-flow in
+    let r = c.flow_after in
     omega (arith, in_range (goal.at.overflow_add-place-in-Err c).After-executable_of-e, word_inside c.requires.0 _ c.executable_of-e.ensures (head_passed (goal.at.overflow_add-place-in-Err c).After-executable_of-e) r.result r.ensures c.in-Err.is)
 
 pub overflow_sub-i : goal.overflow_sub-i
@@ -163,7 +166,7 @@ executables-smaller c = omega (arith, in_range (goal.at.executables-smaller c).A
 pub executables-preserved : goal.executables-preserved
 executables-preserved c =
     let x = c.executables in
-    let r = c.flow_after-flow in
+    let r = c.flow_after in
     let l = c.loop-entry-4.invariant in (
       search rules,
       search rules,

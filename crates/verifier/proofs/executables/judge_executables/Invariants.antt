@@ -1,4 +1,6 @@
--- `executables::judge_executables` meets its contract: what is left of the answer at each stage of an executable is kept from one loop to the next, and what is known of the executable before it. Assumes nothing.
+-- `executables::judge_executables` meets its contract: what is left of the answer at each stage of an
+-- executable is kept from one loop to the next, and what is known of the executable before it.
+-- Assumes nothing.
 use mathlib.Core.Path.{◌≡◌}
 use Prim.Native.Nat.{◌-◌, ◌≤◌}
 use Rattle.answer.specs.Faults.{Nothing, faulted}
