@@ -37,6 +37,20 @@ pub fn u8_at(s: &[u8], at: ByteOffset) -> u8
     s.get(at.0 as usize).copied().unwrap_or(0)
 }
 
+// The number of two bytes, the low one first.
+pub fn u16_of(low: u8, high: u8) -> u16
+    ensures { result ≡ low + high * 256 }
+{
+    u16::from(low) + u16::from(high) * 256
+}
+
+// The number of two halves, the low one first.
+pub fn u32_of(low: u16, high: u16) -> u32
+    ensures { result ≡ low + high * 65536 }
+{
+    u32::from(low) + u32::from(high) * 65536
+}
+
 // Where all bytes of a number are there they are taken by index, which compiles to one test and one load.
 pub fn u16_at(s: &[u8], at: ByteOffset) -> u16
     ensures { result ≡ u16_at s.now at.0 }

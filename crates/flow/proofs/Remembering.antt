@@ -8,7 +8,7 @@ use native.Mathlib.Omega.{arith}
 use lib.Dec.{leb, eqb}
 use lib.ListN.{get_or, set, replicate, length-set, length-replicate}
 use lib.Seq.{get_or-set_same, get_or-set_other}
-use borrow.Author.Tests.{leb-true, eqb-true, eqb-false}
+use borrow.Author.Tests.{leb-true, ltb-true, eqb-true, eqb-false}
 use Rattle.std.proofs.lemmas.Option.{none-some, same_Some}
 use Rattle.std.specs.Bool.{then_some}
 use Rattle.std.specs.Option.{is_some}
@@ -218,6 +218,7 @@ module _ (C : Code) (R : Rules) where
   -- a part that fits again
   module _ (r : Part) (t : ℕ) (c : Cost) (m : List Bool) where
     pub record Again : Type 0 where
+      pub known : 1 ≤ c.visits
       pub room : Room R r.opens.depths c.depths
       pub fits : t + r.weight * c.visits ≤ R.most
 
@@ -226,8 +227,10 @@ module _ (C : Code) (R : Rules) where
     fits_known e =
         let (e₁, f) = both _ _ e in
         let (e₂, l) = both _ _ e₁ in
-        let (o, i) = both _ _ e₂ in
+        let (e₃, i) = both _ _ e₂ in
+        let (n, o) = both _ _ e₃ in
         record {
+          known = ltb-true 0 c.visits n;
           room = (leb-true _ _ o, leb-true _ _ i, leb-true _ _ l);
           fits = leb-true _ _ f;
         }

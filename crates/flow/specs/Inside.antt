@@ -262,10 +262,10 @@ pub record Memory (C : Code) (R : Rules) (m : List Bool) (costs depths : List �
   pub depths_long : length depths ≡ 512
   pub recalls : (p : ℕ) (c : Cost) → cost_at costs depths p ≡ Some c → Recalled C R m (C.control p) p c.visits c.depths
 
--- a region of this cost fits
+-- a region of this cost fits; one that costs nothing is none that was visited
 unfoldable pub fits_here : Rules → Part → ℕ → Cost → Bool
 fits_here R r t c =
-    ((leb (r.opens.depths.calls + c.depths.calls) R.calls && leb (r.opens.depths.ifs + c.depths.ifs) R.ifs) && leb (r.opens.depths.loops + c.depths.loops) R.loops) && leb (t + r.weight * c.visits) R.most
+    (((ltb 0 c.visits && leb (r.opens.depths.calls + c.depths.calls) R.calls) && leb (r.opens.depths.ifs + c.depths.ifs) R.ifs) && leb (r.opens.depths.loops + c.depths.loops) R.loops) && leb (t + r.weight * c.visits) R.most
 
 -- what a part of this cost leaves; only where it fits
 abbrev pub after_passing : Part → ℕ → Cost → Outcome

@@ -10,4 +10,8 @@ mod look;
 mod own;
 mod scan;
 
+pub use depths::Depths;
 pub use entry::{Measured, flow_of};
+pub use limits::{Allowed, Scan};
+pub use look::{Look, Opens, Part};
+pub use scan::Outcome;

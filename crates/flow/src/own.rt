@@ -23,9 +23,7 @@ pub(crate) fn after_loop(p: u32, end: u32, dst: u32) -> Option<u32>
     dst.checked_add(1).filter(|past| p < dst && *past <= end)
 }
 
-// The own word after another; none after an IF or LOOP with bad bounds. Not expanded where it is called, so
-// that the search over words that are no block stays short.
-#[inline(never)]
+// The own word after another; none after an IF or LOOP with bad bounds.
 fn own_after(words: &[u32], end: u32, p: u32) -> Option<u32>
     requires { (end ≤ length words.now) × (p < end) }
     ensures { result ≡ after_of (control_of (get_or words.now p 0)) p end }

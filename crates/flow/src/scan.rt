@@ -2,6 +2,7 @@
 ghost use Rattle.std.specs.Prelude.{◌≡◌, ◌+◌, ◌*◌, ◌-◌, ◌≤◌, ◌<◌, length, get_or};
 ghost use Rattle.std.specs.Option.{is_some, option_and_then};
 ghost use Rattle.flow.specs.Flow.{code_of};
+ghost use Rattle.instruction.specs.Control.{control_of};
 ghost use Rattle.flow.specs.Inside.{rules_of, after_part, Over, Under, cost_of, Asks, AsksBoth, goes_on, no_tests, mark_all, recalled, remember, passed_over, ReadyFor, ScansTo, ScansBothTo};
 
 use crate::depths::Depths;
@@ -52,7 +53,7 @@ pub struct Kept {
 }
 
 // What a region of this cost leaves without being visited: its cost in the total, and what it opens added to
-// what is open around it. None where it does not fit in here or into the total.
+// what is open around it. None where it costs nothing, or does not fit in here or into the total.
 #[tactic(auto, unfolding(crate::specs::Inside::fits_here))]
 fn passed_over(allowed: Allowed, part: Part, total: u32, cost: Cost) -> Option<Outcome>
     requires { Under (rules_of allowed) part.opens.depths }
@@ -60,7 +61,10 @@ fn passed_over(allowed: Allowed, part: Part, total: u32, cost: Cost) -> Option<O
 {
     let around = part.opens.depths;
     let sum = total as u64 + part.weight as u64 * cost.visits as u64;
-    if (allowed.most as u64) < sum || !cost.depths.within(allowed.depths.beyond(around)) {
+    if cost.visits == 0
+        || (allowed.most as u64) < sum
+        || !cost.depths.within(allowed.depths.beyond(around))
+    {
         return None;
     }
     Some(Outcome {
@@ -124,13 +128,15 @@ impl Kept {
         self.depths[at.word as usize] = depths.calls * 65536 + depths.ifs * 256 + depths.loops;
     }
 
-    // True where a visited word is known to go on without its tests: it has none, or it is a jump whose
-    // target was found before and lies in the region. Else they are made.
-    fn goes_on(&self, control: Control, at: Index, end: u32) -> bool
-        ensures { result ≡ goes_on control (is_some (recalled self.now at.word)) end }
+    // True where a visited word is known to go on without its tests: it has none, as its opcode tells, or it
+    // is a jump whose target was found before and lies in the region. Else they are made.
+    fn goes_on(&self, word: u32, at: Index, end: u32) -> bool
+        ensures { result ≡ goes_on (control_of word) (is_some (recalled self.now at.word)) end }
     {
-        match control {
-            Control::Unknown | Control::Plain | Control::End => true,
+        if is_untested(word) {
+            return true;
+        }
+        match control_of(word) {
             Control::Jump(_, dst, _) => self.recall(at).is_some() && dst.0 < end,
             _ => false,
         }
@@ -249,7 +255,7 @@ impl Kept {
             t = sum as u32;
             let at = Index { word: p };
             self.marks[p as usize] = true;
-            if self.goes_on(control_of(scan.words[p as usize]), at, end) {
+            if self.goes_on(scan.words[p as usize], at, end) {
                 p += 1;
                 continue;
             }

@@ -37,7 +37,7 @@ pub format_past : (k : ℕ) → 64 ≤ k → format_of k ≡ None
 unfolding format_of operations
 format_past k h = none_past k h operations tt
 
-entry_past : (k : ℕ) → 64 ≤ k → entry_format k ≡ None
+pub entry_past : (k : ℕ) → 64 ≤ k → entry_format k ≡ None
 unfolding entry_format operations
 entry_past k h = grind (arith, nat_tests)
 

@@ -37,7 +37,9 @@ pub enum Control {
     Jump(Condition, WordAddress, u32),
 }
 
-// The opcodes of control flow and output: 20h to 2Dh. The one that is left is NOP.
+// The opcodes of control flow and output: 20h to 2Dh. The one that is left is NOP. Expanded where it is
+// called, so that a caller reads the fields of its own kinds of word alone.
+#[inline(always)]
 fn flow_control_of(op: u32, word: u32) -> Control
     requires { (op ≡ field 26 6 word) × (0x20 ≤ op) × (op < 0x2e) }
     ensures { result ≡ control_of word }

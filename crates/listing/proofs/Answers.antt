@@ -60,7 +60,7 @@ module _ (file : List ℕ) where
       each k d i ∙ rw e (u32_drop file t.start.0 (k * 8)) ∙ sym (rw z at (list_at f 0 t.count k d i)))
 
   -- an accepted library of one judging, and its reports
-  verdict_is : {r q : Result Judged Refusal} → judged_as r ≡ judge_of file → r ≡ q → (judged_as q).verdict ≡ check_of file
+  pub verdict_is : {r q : Result Judged Refusal} → judged_as r ≡ judge_of file → r ≡ q → (judged_as q).verdict ≡ check_of file
   unfolding judge_of
   verdict_is a h = ap (λ x. x.verdict) (sym (ap judged_as h) ∙ a)
 

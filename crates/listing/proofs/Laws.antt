@@ -1,13 +1,14 @@
 -- Laws of records written one after another. Assumes nothing.
 use mathlib.Core.Path.{◌≡◌, refl, sym, ap}
-use mathlib.Core.Bool.{cond}
+use mathlib.Core.Bool.{Bool, true, false, cond}
 use mathlib.Core.List.{List, append_assoc}
 use Prim.Native.Nat.{ℕ, zero, suc, ◌+◌, ◌*◌, ◌-◌, ◌≤◌, ◌<◌}
 use native.Mathlib.Numerals.{add-one}
 use native.Mathlib.Omega.{arith}
+use lib.Dec.{ltb}
 use lib.ListN.{length, take, drop, length-append}
 use lib.Seq.{sets, sets-eq, drop-drop}
-use borrow.Author.Tests.{lt-ltb, le-ltb}
+use borrow.Author.Tests.{lt-ltb, le-ltb, ltb-false}
 use borrow.Rule.Slice.PartMut.{put_mid}
 use Rattle.answer.specs.Answers.{given, refused}
 use Rattle.listing.specs.Listing.{records_of, room}
@@ -19,6 +20,14 @@ too_short size n h = ap (λ b. cond b (refused 30 0) (given (n * 80))) (lt-ltb s
 
 pub enough : (size n : ℕ) → n * 80 ≤ size → room size n ≡ given (n * 80)
 enough size n h = ap (λ b. cond b (refused 30 0) (given (n * 80))) (le-ltb size (n * 80) h)
+
+-- .. and one for which a number is given
+pub has_room : {k : ℕ} (size n : ℕ) → given k ≡ room size n → n * 80 ≤ size
+has_room {k} size n e = by (ltb size (n * 80)) refl e
+  where
+    by : (b : Bool) → ltb size (n * 80) ≡ b → given k ≡ cond b (refused 30 0) (given (n * 80)) → n * 80 ≤ size
+    by true t e = absurd (let z : ◌≡◌ {A = ℕ} 0 1 = cc in omega arith)
+    by false t e = ltb-false size (n * 80) t
 
 -- a part that was lent comes back as stores
 put_mid_lem : (a k : ℕ) (xs ys : List ℕ) → length ys ≡ k → a + k ≤ length xs → put_mid a k xs ys ≡ sets xs a ys

@@ -24,7 +24,8 @@ fn word_at(file: &[u8], words: Table, p: u32) -> u32
     u32_at(tail(file, words.start), offset_of_word(WordAddress(p)))
 }
 
-// The descriptors, and zeros after them. In the file each has eight bytes, of which the first four are used.
+// The descriptors, at the start of an array. In the file each has eight bytes, of which the first four are
+// used.
 fn descriptors_of(file: &[u8], table: Table) -> [u32; 128]
     requires { table.count ≤ 128 }
     ensures { take table.count result ≡ descriptors_of file.now table }
@@ -36,6 +37,17 @@ fn descriptors_of(file: &[u8], table: Table) -> [u32; 128]
         *descriptor = u32_at(bytes, ByteOffset(index as u64 * 8));
     }
     descriptors
+}
+
+// How many bytes so many records have; or refuses a buffer that is too short for them.
+fn room_for(out: &[u8], count: u32) -> Result<u32, Refusal>
+    requires { count ≤ 512 }
+    ensures { answered result ≡ room (length out.now) count }
+{
+    if out.len() < count as usize * 80 {
+        return Err(Reason::BufferTooShort.at(0));
+    }
+    Ok(count * 80)
 }
 
 // Writes the records 0, 1, .., `count` in all, and answers how many bytes they have; or refuses a buffer that
@@ -50,14 +62,12 @@ fn write_records<F: Fn(u32) -> [u8; 80]>(
     ensures answers { answered result ≡ room (length out.old) count }
     ensures writes { WritesEach (F.post record_at) count (room (length out.old) count) out.old out.new }
 {
-    if out.len() < count as usize * 80 {
-        return Err(Reason::BufferTooShort.at(0));
-    }
+    let size = room_for(out, count)?;
     for index in 0..count {
         let at = index as usize * 80;
         out[at..at + 80].copy_from_slice(&record_at(index));
     }
-    Ok(count * 80)
+    Ok(size)
 }
 
 // The listing: a record for each word, and how many bytes they have.
@@ -68,6 +78,8 @@ pub fn list(file: &[u8], out: &mut [u8]) -> Result<u32, Refusal>
 {
     let library = check(file)?;
     let program = library.program;
+    // Before the descriptors are loaded, so that a short buffer costs no more than the check.
+    room_for(out, program.words.count)?;
     let all = descriptors_of(file, program.descriptors);
     let descriptors = &all[..program.descriptors.count as usize];
     write_records(

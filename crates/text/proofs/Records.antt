@@ -1,20 +1,27 @@
 -- Laws of records: a text written over the start of a blank record, and the names of operations.
 -- Assumes nothing.
-use Rattle.std.proofs.Common.{◌≡◌, ℕ, ◌+◌, ◌≤◌, ◌<◌, Bool, true, ◌&&◌, List, [], ◌∷◌, length, get_or, replicate, refl, sym, arith, nat_eq}
+use Rattle.std.proofs.Common.{◌≡◌, ℕ, ◌+◌, ◌≤◌, ◌<◌, Bool, true, ◌&&◌, List, [], ◌∷◌, length, length-take, get_or, set, take, replicate, refl, sym, ap, arith, nat_eq}
 use Rattle.std.proofs.lemmas.Bool.{agree_below, agree_below_at}
 use Rattle.std.proofs.lemmas.Grind.{common_steps}
 use Rattle.std.specs.Prelude.{ltb}
 use Rattle.std.specs.Cmp.Lexicographic.{pointwise, same_text}
-use Rattle.std.proofs.lemmas.List.{drop-replicate}
+use Rattle.std.proofs.lemmas.List.{drop-replicate, take_more_set}
 use lib.Seq.{sets, sets-eq}
 use Rattle.instruction.specs.Operations.{Operation, operations}
 use Rattle.text.specs.Pieces.{name_in, name_text}
 use Rattle.text.specs.Records.{record_of}
 use Rattle.text.specs.declared.record.TheConstants.{NAMES}
+use Rattle.verifier.proofs.Lists.{sets_append}
 
 -- a text written over the start of a blank record gives its record
 pub recorded : (n : ℕ) (p : List ℕ) → length p ≤ n → sets (record_of (n + 1) []) 0 p ≡ record_of (n + 1) p
 recorded n p h = grind (arith, common_steps, sets-eq, drop-replicate)
+
+-- and one byte more, written after it
+pub one_put : (blank l : List ℕ) (i b : ℕ) → i < length l → l ≡ sets blank 0 (take i l) → set l i b ≡ sets blank 0 (take (i + 1) (set l i b))
+one_put blank l i b h e =
+    let z : 0 + length (take i l) ≡ i = omega (arith, length-take i l) in
+    rw (take_more_set l i b h, sets_append (take i l) (b ∷ []) blank 0, z) (ap (λ k. set k i b) e)
 
 -- no number of the list is over 63
 all_low : List Operation → Bool

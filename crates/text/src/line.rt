@@ -9,7 +9,7 @@ use std::marker::Model;
 
 const DIGITS: [u8; 16] = *b"0123456789ABCDEF";
 
-// The text and its length; spaces stand after it, up to the end of the record that it becomes.
+// A record that was blank at first, its text written over the start, and how long the text is.
 #[derive(Drop)]
 pub(crate) struct Line {
     bytes: [u8; 80],
@@ -18,33 +18,31 @@ pub(crate) struct Line {
 
 // Clauses see the text that was put so far.
 impl Model for Line {
-    ghost use Rattle.std.specs.Prelude.{◌≡◌, ◌≤◌, List, ℕ, take};
-    ghost use Rattle.text.specs.Pieces.{padded};
+    ghost use Rattle.std.specs.Prelude.{◌≡◌, ◌≤◌, List, [], ℕ, take};
+    ghost use Rattle.std.proofs.lemmas.List.Edits.{sets};
+    ghost use Rattle.text.specs.Records.{record_of};
 
     ghost Value = { List ℕ };
 
     ghost view = { λ line. take line.length line.bytes };
 
-    ghost invariant = { λ line. (line.length ≤ 79) × (line.bytes ≡ padded 80 (take line.length line.bytes)) };
+    ghost invariant = { λ line. (line.length ≤ 79) × (line.bytes ≡ sets (record_of 80 []) 0 (take line.length line.bytes)) };
 }
 
 impl Line {
     pub(crate) fn new() -> Self
         ensures { result ≡ [] }
     {
-        Line {
-            bytes: [b' '; 80],
-            length: 0,
-        }
+        let mut bytes = [b' '; 80];
+        bytes[79] = b'\n';
+        Line { bytes, length: 0 }
     }
 
-    // The record: a line feed in its last column.
+    // The record as it stands.
     pub(crate) fn finish(self) -> [u8; 80]
         ensures { result ≡ record_of 80 self }
     {
-        let mut bytes = self.bytes;
-        bytes[79] = b'\n';
-        bytes
+        self.bytes
     }
 
     pub(crate) fn put_byte(&mut self, byte: u8)

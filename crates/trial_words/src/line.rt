@@ -60,9 +60,11 @@ pub(crate) fn write_line<W: Write>(output: &mut W, word: u32) -> io::Result<()> 
             write!(output, "{encoded:08X}")?;
             write_fields(output, fields)
         }
-        Err(refusal) => {
-            let (number, place) = (refusal.number(), refusal.place);
-            writeln!(output, "{word:08X} refused {number:02} {place:08x}")
-        }
+        // The place of 9 and of 31 is 0.
+        Err(refusal) => writeln!(
+            output,
+            "{word:08X} refused {:02} 00000000",
+            refusal.number()
+        ),
     }
 }

@@ -56,7 +56,7 @@ module _ (file : List ℕ) (index n : ℕ) where
 
       module _ (h : n < e.constants.count) where
         -- the check has refused every bad entry
-        never_bad : held ≡ None → ⊥
+        pub never_bad : held ≡ None → ⊥
         never_bad b =
             let good = (t.clean.executables index (omega (arith, ap (λ x. x.executables) t.same))).no18 n h in
             true_not_false (sym (ap is_bad b) ∙ good)

@@ -59,11 +59,11 @@ module _ (fs : List Frame) (n : ℕ) (some : 0 < n) (room : n ≤ length fs) whe
           over (inl e) = ap (λ b. ltb 0 k && not b) (eq-eqb s top.end (e.1 ∙ h)) ∙ neither (ltb 0 k)
 
   -- leaving: at a LOOP; at another region
-  leaves_here : repeats top.after ≡ true → Some (standing top.end (opened fs (n - 1))) ≡ leaving (opened fs n)
+  pub leaves_here : repeats top.after ≡ true → Some (standing top.end (opened fs (n - 1))) ≡ leaving (opened fs n)
   unfolding leaving
   leaves_here h = rw (split, h)
 
-  leaves_on : repeats top.after ≡ false → leaving (opened fs (n - 1)) ≡ leaving (opened fs n)
+  pub leaves_on : repeats top.after ≡ false → leaving (opened fs (n - 1)) ≡ leaving (opened fs n)
   unfolding leaving
   leaves_on h = rw (split, h)
 

@@ -132,15 +132,15 @@ module _ (ws : List ℕ) (v : Settings) where
       good = head g.kept
 
       -- the word is in the table, few regions are open, and there is more to fetch than was
-      word_inside : word < length ws
+      pub word_inside : word < length ws
       word_inside = rw here good.inside
 
-      shallow : length fs ≤ 15
+      pub shallow : length fs ≤ 15
       shallow =
           let e : length fs ≡ length (shown g.state.opens) = ap (λ s. length s.frames) g.seen in
           omega (arith, e, shown_few g.state.opens, good.few_calls, good.few_ifs, good.few_loops)
 
-      early : steps < length all
+      pub early : steps < length all
       early =
           let e : length all ≡ length g.before + suc (length (indices_of g.rest)) = ap length g.whole ∙ length-append g.before (indices_of (g.state ∷ g.rest)) in
           omega (arith, e, g.made)
@@ -160,7 +160,7 @@ module _ (ws : List ℕ) (v : Settings) where
       control_is : {controls : List Control} (d : Control) → controls ≡ controls_of ws → get_or controls word d ≡ control
       control_is d e = rw e (control_at ws word d word_inside)
 
-      follow : Follows (read_after control g.state.read) (executed g.state) (followed fs (move_of v control (word + 1) left))
+      follow : Follows fs g.state.read (read_after control g.state.read) (executed g.state) (move_of v control (word + 1) left)
       follow =
           let frames : fs ≡ shown g.state.opens = ap (λ y. y.frames) g.seen in
           rw (here, frames) (follows v (control_of (get_or ws g.state.word 0)) g.state.word g.state.opens g.state.read left g.outcomes)
@@ -171,7 +171,7 @@ module _ (ws : List ℕ) (v : Settings) where
           → left' ≡ left_after (get_or controls word d) left → list' ≡ set list steps word → Going fs' word' (steps + 1) left' list'
       goes_on {controls} {fs'} {word'} {left'} {list'} d is e o w =
           let reached : Some (standing word' fs') ≡ followed fs (move_of v control (word + 1) left) = rw (control_is d is) at e in
-          by (then_on g.bound g.state g.runs) g.kept (rw (sym reached) at follow)
+          by (then_on g.bound g.state g.runs) g.kept (rw (sym reached) at follow.leads)
         where
           rest : left' ≡ left_after control left
           rest = rw (control_is d is) at o
@@ -201,7 +201,7 @@ module _ (ws : List ℕ) (v : Settings) where
           → (steps + 1 ≡ length all) × (set list steps word ≡ sets old 0 all)
       ended d is e =
           let reached : None ≡ followed fs (move_of v control (word + 1) left) = rw (control_is d is) at e in
-          by (then_on g.bound g.state g.runs) (rw (sym reached) at follow)
+          by (then_on g.bound g.state g.runs) (rw (sym reached) at follow.leads)
         where
           by : Then g.state g.rest → halts (executed g.state) ≡ true → (steps + 1 ≡ length all) × (set list steps word ≡ sets old 0 all)
           by (last x r) h =
@@ -215,7 +215,7 @@ module _ (ws : List ℕ) (v : Settings) where
     unfolding fetches_by
     all_is = ap fetches_in (sym (run_same r.descriptors 4000000 (start m e)) ∙ r.whole.ends)
 
-    few_steps : length (fetches_by ws v m e) ≤ 4000000
+    pub few_steps : length (fetches_by ws v m e) ≤ 4000000
     few_steps = omega (arith, ap length all_is, words_length r.whole.fetched, r.whole.steps)
 
     pub bounds : {old : List ℕ} {fs : List Frame} {word steps : ℕ} {left list : List ℕ} → Going (fetches_by ws v m e) old fs word steps left list → Bounds fs word steps

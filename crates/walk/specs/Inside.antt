@@ -108,9 +108,9 @@ move_call taken q dst num = pick taken (move.Open (frame (dst + num) (GoOn q)) d
 abbrev pub move_jump : Bool → ℕ → ℕ → Move
 move_jump taken q dst = pick taken (move.Go dst) (move.Go q)
 
--- the same for each word, with these outcomes left; none at END and at an unknown word
+-- the same for each word, with these outcomes left; none at END
 abbrev pub move_of : Settings → Control → ℕ → List ℕ → Option Move
-move_of v Unknown q l = None
+move_of v Unknown q l = Some (move.Go q)
 move_of v Plain q l = Some (move.Go q)
 move_of v Emit q l = Some (move.Go q)
 move_of v End q l = None

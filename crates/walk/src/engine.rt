@@ -32,7 +32,7 @@ fn note(fetched: &mut [u16], step: usize, word: u16)
 }
 
 // Does what a word asks for, with the address after it and the outcomes that are left, and answers the next
-// word; None where the run has no next step, as at END.
+// word; None at END, and at a BREAK with no LOOP open.
 fn step(
     frames: &mut Frames,
     settings: &Settings,

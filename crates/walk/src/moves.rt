@@ -73,9 +73,9 @@ fn move_jump(taken: bool, next: u64, dst: u32) -> Move
     Move::Go(if taken { dst as u64 } else { next })
 }
 
-// What a word asks for, with the address after it and the outcomes that are left; None at END and at an
-// unknown word, which have no next step. NUM of a jump is not read. A LOOP register over 3 has no next step
-// either, so what is answered for it does not matter.
+// What a word asks for, with the address after it and the outcomes that are left; None at END. NUM of a jump
+// is not read. An unknown word and a LOOP register over 3 have no next step, so what is answered for them
+// does not matter.
 pub(crate) fn move_of(
     settings: &Settings,
     control: &Control,
@@ -86,8 +86,8 @@ pub(crate) fn move_of(
     ensures left { outcomes.new.now ≡ left_after control.now outcomes.old.now }
 {
     match *control {
-        Control::End | Control::Unknown => None,
-        Control::Plain | Control::Emit => Some(Move::Go(next)),
+        Control::End => None,
+        Control::Unknown | Control::Plain | Control::Emit => Some(Move::Go(next)),
         Control::Break(c) => Some(move_break(settings.is_true(c, outcomes), next)),
         Control::If(c, dst, num) => {
             let taken = settings.is_true(c, outcomes);

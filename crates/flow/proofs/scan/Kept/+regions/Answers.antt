@@ -6,10 +6,9 @@ use native.Mathlib.Nat.{max-le}
 use native.Mathlib.Omega.{arith}
 use borrow.Author.Rules.{rules}
 use Rattle.std.proofs.lemmas.Grind.{common_steps}
-use Rattle.std.specs.Prelude.{is_some}
 use Rattle.flow.specs.declared.scan.Cost.{Cost}
 use Rattle.flow.specs.Flow.{code_of}
-use Rattle.flow.specs.Inside.{rules_of, cost_at, goes_on}
+use Rattle.flow.specs.Inside.{rules_of}
 use Rattle.flow.proofs.Looks.{light, heavy, later, fits_at, weighs_at}
 use Rattle.flow.proofs.NoTests.{none, untested_both}
 use Rattle.flow.proofs.Remembering.{asks_one, asks_both}
@@ -82,7 +81,7 @@ scan_part-returns-then-scan-sum t c =
 pub scan_part-loop-p-preserved-then-goes_on : goal.scan_part-loop-p-preserved-then-goes_on
 scan_part-loop-p-preserved-then-goes_on t c =
     let q = c.loop-p in
-    standing_known q.invariant c.requires.within c.args.scan.few c.loop-p-test.true c.if-scan-sum.false (omega arith) (ap (λ y. goes_on y (is_some (cost_at q.self.costs q.self.depths q.p)) c.args.part.to.0) (sym c.control_of.ensures) ∙ sym c.goes_on.ensures ∙ c.if-goes_on.true)
+    standing_known q.invariant c.requires.within c.args.scan.few c.loop-p-test.true c.if-scan-sum.false (omega arith) (sym c.goes_on.ensures ∙ c.if-goes_on.true)
 
 pub scan_part-look_at-requires : goal.scan_part-look_at-requires
 scan_part-look_at-requires t c =
