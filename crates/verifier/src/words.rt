@@ -49,8 +49,7 @@ pub fn words_of(file: &[u8], table: Table) -> [u32; 512]
 }
 
 // The fault of one word, in a library of so many descriptors. A word that takes any fields is passed by its
-// opcode alone, which is quicker; and what a word does to control flow is asked twice, since each test then
-// compiles to one of the opcode.
+// opcode alone, which is quicker.
 #[tactic(auto, unfolding(crate::specs::Words::word_fault), using(crate::proofs::AnyFields::no_fault))]
 fn word_fault(word: u32, descriptors: u32, place: u32) -> Result<(), Refusal>
     ensures { faulted result ≡ word_fault descriptors word place }
@@ -58,7 +57,8 @@ fn word_fault(word: u32, descriptors: u32, place: u32) -> Result<(), Refusal>
     if takes_any_fields(word) {
         return Ok(());
     }
-    if matches!(control_of(word), Control::Unknown) {
+    let control = control_of(word);
+    if matches!(control, Control::Unknown) {
         return Err(Reason::UnknownOpcode.at(place));
     }
     if compare_operators_of(word).is_some_and(|o| (5 < o.x) | (5 < o.y)) {
@@ -67,7 +67,7 @@ fn word_fault(word: u32, descriptors: u32, place: u32) -> Result<(), Refusal>
     if descriptor_of(word).is_some_and(|id| descriptors <= id) {
         return Err(Reason::MissingDescriptor.at(place));
     }
-    if matches!(control_of(word), Control::Loop(4.., _)) {
+    if matches!(control, Control::Loop(4.., _)) {
         return Err(Reason::BadRegister.at(place));
     }
     Ok(())
